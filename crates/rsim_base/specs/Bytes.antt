@@ -1,0 +1,32 @@
+-- Which bytes of memory an access touches, and the bytes of a value in memory.
+-- An address has 64 bits, and sums of addresses go round at 2^64. Numbers are big-endian.
+use Rattle.std.specs.Prelude.{◌≡◌, ℕ, ◌+◌, ◌-◌, ◌*◌, ◌/◌, ◌%◌, ◌^◌, ◌<◌}
+use Rattle.rsim_base.specs.declared.memory.Size.{Size}
+use Rattle.rsim_base.specs.declared.memory.Size.TheVariants.{B1, B2, B4, B8}
+
+-- how many bytes an access of a size has
+abbrev pub count_of : Size → ℕ
+count_of B1 = 1
+count_of B2 = 2
+count_of B4 = 4
+count_of B8 = 8
+
+-- x is among the n bytes from address a on
+abbrev pub IsByteOf : ℕ → ℕ → ℕ → Type 0
+IsByteOf x a n = (k : ℕ) × (k < n) × (x ≡ (a + k) % 2 ^ 64)
+
+-- how far b is above a, going round
+abbrev pub gap_of : ℕ → ℕ → ℕ
+gap_of a b = (b + (2 ^ 64 - a)) % 2 ^ 64
+
+-- some byte is in both
+abbrev pub Overlaps : ℕ → ℕ → ℕ → ℕ → Type 0
+Overlaps a n b m = (x : ℕ) × IsByteOf x a n × IsByteOf x b m
+
+-- every byte of the second is in the first
+abbrev pub Covers : ℕ → ℕ → ℕ → ℕ → Type 0
+Covers a n b m = (x : ℕ) → IsByteOf x b m → IsByteOf x a n
+
+-- byte `at` of the low n bytes of a value, the first in memory at 0
+abbrev pub byte_of : ℕ → ℕ → ℕ → ℕ
+byte_of value n at = value / 2 ^ (8 * (n - 1 - at)) % 256

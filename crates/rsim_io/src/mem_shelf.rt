@@ -1,0 +1,189 @@
+// A shelf in memory.
+ghost use Rattle.std.specs.Prelude.{◌≡◌, ◌⊎◌, ◌↔◌, ◌-◌, ◌^◌, ◌<◌, [], IfOk, OnOk, OnErr, IsErrOf, Some, None, true, false, is_some, option_copied};
+ghost use Rattle.std.specs.FinMap.{empty, get, insert};
+ghost use Rattle.rsim_io.specs.Failing.{next_fails, after_next, after_next_of};
+ghost use Rattle.rsim_io.specs.Faults.{HasCause};
+ghost use Rattle.rsim_io.specs.Files.{Fetches, Creates, Appends};
+
+use crate::failures::Failures;
+use crate::{FetchFault, Shelf, StoreFault};
+use rsim_base::NoMemory;
+use std::alloc::Global;
+use std::collections::BTreeMap;
+use std::marker::Model;
+
+/// A shelf that keeps its files in memory, and whose calls fail as they are told.
+#[derive(Drop)]
+pub struct MemShelf {
+    alloc: Global,
+    files: BTreeMap<String, Vec<u8>>,
+    failures: Failures,
+}
+
+impl Model for MemShelf {
+    ghost use Rattle.rsim_io.specs.Memory.{ShelfInMemory, shelf_code};
+    ghost use Rattle.rsim_io.specs.Entries.{files_of};
+
+    ghost Value = { ShelfInMemory };
+
+    ghost coded = { shelf_code };
+
+    ghost view = { λ s. record { files = files_of s.files; failing = s.failures } };
+}
+
+impl MemShelf {
+    /// A shelf with no file, whose calls of the trait with these numbers, counted from 0, fail.
+    pub fn make(alloc: Global, fails: Vec<u32>) -> Result<MemShelf, NoMemory>
+        ensures { IfOk result (λ shelf. shelf ≡ record { files = empty; failing = record { fails = fails.items; calls = 0; faults = 0 } }) }
+    {
+        Ok(MemShelf {
+            alloc,
+            files: BTreeMap::new(alloc),
+            failures: Failures::new(fails),
+        })
+    }
+
+    /// Sets the bytes of a file. Refused, it changes nothing.
+    pub fn set(&mut self, name: &str, bytes: &[u8]) -> Result<(), NoMemory>
+        ensures ok { OnOk result (self.new ≡ record self.old { files = insert self.old.files name.now bytes.now }) }
+        ensures err { OnErr result (self.new ≡ self.old) }
+    {
+        let name = String::from_str(self.alloc, name).map_err(|_| NoMemory)?;
+        let bytes = bytes.to_vec(self.alloc).map_err(|_| NoMemory)?;
+        self.files.insert(name, bytes).map_err(|_| NoMemory)?;
+        Ok(())
+    }
+
+    /// The bytes of a file, if the shelf holds it.
+    pub fn file(&self, name: &str) -> Option<&[u8]>
+        ensures { option_copied result ≡ get self.now.files name.now }
+    {
+        let file = self.files.get(name)?;
+        Some(file)
+    }
+}
+
+impl Shelf for MemShelf {
+    ghost holds = { λ s. Some s.files };
+
+    ghost faults = { λ s. s.failing.faults };
+
+    ghost sure = { λ _. false };
+
+    fn fetch(&mut self, name: &str, into: &mut Vec<u8>, limit: u64) -> Result<(), FetchFault>
+        requires empty { into.old.items ≡ [] }
+        requires limit { limit < 2 ^ 64 - 1 }
+        ensures fetched { Fetches (Some self.old.files) name.now limit result into.new.items }
+        ensures files { self.new.files ≡ self.old.files }
+        ensures cause { HasCause (IsErrOf result FetchFault.Failed) self.old.failing.faults self.new.failing.faults }
+        ensures fails { IsErrOf result FetchFault.Failed
+            ↔ (next_fails self.old.failing ≡ true) ⊎ (get self.old.files name.now ≡ None) }
+        ensures counted { self.new.failing ≡ after_next_of (is_some (get self.old.files name.now)) self.old.failing }
+    {
+        if self.failures.next_fails() {
+            return Err(FetchFault::Failed);
+        }
+        let Some(file) = self.file(name) else {
+            self.failures.add_fault();
+            return Err(FetchFault::Failed);
+        };
+        if file.len() as u64 <= limit {
+            return into.extend_from_slice(file).map_err(|_| FetchFault::Memory);
+        }
+        let first = limit as usize + 1;
+        into.extend_from_slice(&file[..first])
+            .map_err(|_| FetchFault::Memory)?;
+        Err(FetchFault::TooLarge)
+    }
+
+    fn create(&mut self, name: &str) -> Result<(), StoreFault>
+        ensures created { Creates (Some self.old.files) name.now result (Some self.new.files) }
+        ensures cause { HasCause (IsErrOf result StoreFault.Failed) self.old.failing.faults self.new.failing.faults }
+        ensures fails { IsErrOf result StoreFault.Failed ↔ next_fails self.old.failing ≡ true }
+        ensures counted { self.new.failing ≡ after_next self.old.failing }
+    {
+        if self.failures.next_fails() {
+            return Err(StoreFault::Failed);
+        }
+        self.set(name, &[]).map_err(|_| StoreFault::Memory)
+    }
+
+    fn append(&mut self, name: &str, bytes: &[u8]) -> Result<(), StoreFault>
+        ensures appended { Appends (Some self.old.files) name.now bytes.now result (Some self.new.files) }
+        ensures cause { HasCause (IsErrOf result StoreFault.Failed) self.old.failing.faults self.new.failing.faults }
+        ensures fails { IsErrOf result StoreFault.Failed ↔ next_fails self.old.failing ≡ true }
+        ensures counted { self.new.failing ≡ after_next self.old.failing }
+    {
+        if self.failures.next_fails() {
+            return Err(StoreFault::Failed);
+        }
+        match self.files.get_mut(name) {
+            Some(file) => file
+                .extend_from_slice(bytes)
+                .map_err(|_| StoreFault::Memory),
+            None => self.set(name, bytes).map_err(|_| StoreFault::Memory),
+        }
+    }
+}
+
+#[cfg(test)]
+mod tests {
+    use super::*;
+    use std::test::Fail;
+
+    fn shelf_failing_at(alloc: Global, fails: &[u32]) -> Result<MemShelf, Fail> {
+        let fails = fails.to_vec(alloc)?;
+        Ok(MemShelf::make(alloc, fails)?)
+    }
+
+    #[test]
+    fn fetch_gives_the_file_up_to_the_limit_and_one_byte_past_it(
+        rt: HostRuntime,
+    ) -> Result<(), Fail> {
+        let mut shelf = shelf_failing_at(rt.alloc(), &[])?;
+        shelf.set("kernel", b"bytes")?;
+        let mut whole = Vec::new(rt.alloc());
+        assert_eq!(rt; shelf.fetch("kernel", &mut whole, 5), Ok(()));
+        assert_eq!(rt; whole.as_slice(), b"bytes".as_slice());
+        let mut past = Vec::new(rt.alloc());
+        assert_eq!(rt;
+            shelf.fetch("kernel", &mut past, 4),
+            Err(FetchFault::TooLarge)
+        );
+        assert_eq!(rt; past.as_slice(), b"bytes".as_slice());
+        let mut start = Vec::new(rt.alloc());
+        assert_eq!(rt;
+            shelf.fetch("kernel", &mut start, 0),
+            Err(FetchFault::TooLarge)
+        );
+        assert_eq!(rt; start.as_slice(), b"b".as_slice());
+        Ok(())
+    }
+
+    #[test]
+    fn append_makes_a_file_and_create_empties_it(rt: HostRuntime) -> Result<(), Fail> {
+        let mut shelf = shelf_failing_at(rt.alloc(), &[])?;
+        shelf.append("log", b"one")?;
+        shelf.append("log", b"two")?;
+        assert_eq!(rt; shelf.file("log").ok_or("not held")?, b"onetwo".as_slice());
+        shelf.create("log")?;
+        assert_eq!(rt; shelf.file("log").ok_or("not held")?, b"".as_slice());
+        assert!(rt; shelf.file("other").is_none());
+        let mut into = Vec::new(rt.alloc());
+        assert_eq!(rt; shelf.fetch("other", &mut into, 9), Err(FetchFault::Failed));
+        Ok(())
+    }
+
+    #[test]
+    fn the_numbered_calls_fail_and_no_others(rt: HostRuntime) -> Result<(), Fail> {
+        let mut shelf = shelf_failing_at(rt.alloc(), &[3, 1])?;
+        assert_eq!(rt; shelf.append("log", b"a"), Ok(()));
+        assert_eq!(rt; shelf.append("log", b"b"), Err(StoreFault::Failed));
+        assert_eq!(rt; shelf.append("log", b"c"), Ok(()));
+        assert_eq!(rt; shelf.create("log"), Err(StoreFault::Failed));
+        let mut into = Vec::new(rt.alloc());
+        assert_eq!(rt; shelf.fetch("log", &mut into, 9), Ok(()));
+        assert_eq!(rt; into.as_slice(), b"ac".as_slice());
+        Ok(())
+    }
+}

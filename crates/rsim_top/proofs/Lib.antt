@@ -1,0 +1,7 @@
+pub mod AnswerCases
+pub mod Hex
+pub mod Names
+pub mod Numbers
+pub mod Runs
+pub mod Stored
+pub mod Texts

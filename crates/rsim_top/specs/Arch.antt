@@ -1,0 +1,93 @@
+-- The state of a processor between two instructions, and what one instruction makes of it: the meaning
+-- of the instruction set, one instruction at a time (The SPARC Architecture Manual, Version 9).
+-- Registers hold numbers below 2^64, and sums go round there.
+use Rattle.std.specs.Prelude.{ℕ, ◌+◌, ◌-◌, ◌*◌, ◌%◌, ◌^◌, ◌==◌, Bool, true, false, if◌then◌else◌, replicate, slice_index, slice_set, Option, Some, None, bit_or}
+use Rattle.elf64_load.specs.Image.{ImageView, fetched}
+use Rattle.rsim_top.specs.declared.arch.Arch.{Arch}
+use Rattle.rsim_top.specs.declared.arch.End.{End}
+use Rattle.rsim_top.specs.declared.arch.End.TheVariants.{Running, Exit, Trapped, Unbuilt}
+use Rattle.rsim_top.specs.declared.arch.Act.{Act}
+use Rattle.rsim_top.specs.declared.arch.Act.TheVariants.{Nothing, Out, End as Ended}
+use Rattle.rsim_top.specs.declared.arch.Spoken.TheVariants.{Byte, Number}
+use Rattle.rsim_top.specs.declared.decode.Instr.{Instr}
+use Rattle.rsim_top.specs.declared.decode.Instr.TheVariants.{Sethi, Or, Trap, Unbuilt as NotBuilt}
+use Rattle.rsim_top.specs.declared.decode.Src2.{Src2}
+use Rattle.rsim_top.specs.declared.decode.Src2.TheVariants.{Reg, Imm}
+use Rattle.rsim_top.specs.Instr.{instr}
+
+-- ---- registers
+
+-- register 0 reads 0, and is never written (5.1.1)
+abbrev pub register : Arch → ℕ → ℕ
+register s r = if r == 0 then 0 else slice_index s.registers r
+
+abbrev pub with_register : ℕ → ℕ → Arch → Arch
+with_register r value s = if r == 0 then s else record s { registers = slice_set s.registers r value }
+
+-- the value of operand 2
+abbrev pub operand : Arch → Src2 → ℕ
+operand s (Reg r) = register s r
+operand s (Imm value) = value
+
+-- %o0, which a service takes its argument from
+abbrev pub argument : Arch → ℕ
+argument s = register s 8
+
+-- ---- the start
+
+-- Processor p of n starts at the entry with %o0 = p, %o1 = n, and in %o6 the end of stack p less the
+-- bias of 2,047 and a frame's 256 bytes. Every other register is 0.
+abbrev pub boot : ImageView → ℕ → ℕ → Arch
+boot image p n = record {
+  registers = slice_set (slice_set (slice_set (replicate 32 0) 8 p) 9 n) 14 (0x7F000000 + (p + 1) * 0x10000 - 2303);
+  pc = image.entry;
+  npc = (image.entry + 4) % 2 ^ 64;
+  end = Running;
+}
+
+-- ---- one step
+
+-- the state after a step, and what the step does beside
+pub record Stepped : Type 0 where
+  pub state : Arch
+  pub act : Act
+
+-- to the next instruction, with nothing done beside
+abbrev pub next : Arch → Arch
+next s = record s { pc = s.npc; npc = (s.npc + 4) % 2 ^ 64 }
+
+-- a step that ends the processor changes nothing else
+abbrev pub ends : End → Arch → Stepped
+ends how s = record { state = record s { end = how }; act = Ended }
+
+abbrev pub goes_on : Act → Arch → Stepped
+goes_on act s = record { state = next s; act = act }
+
+-- A taken Tcc of this number: 16 exits with the status in %o0, 17 puts its low byte, 18 puts it as a
+-- decimal number and a line feed. Every other number is a trap that ends the processor.
+abbrev pub service : ℕ → Arch → Stepped
+service number s =
+    if number == 16 then ends (Exit (argument s)) s
+    else (if number == 17 then goes_on (Out (Byte (argument s % 256))) s
+    else (if number == 18 then goes_on (Out (Number (argument s))) s
+    else ends (Trapped (0x100 + number) s.pc) s))
+
+abbrev pub executed : Instr → Arch → Stepped
+executed (Sethi d value) s = goes_on Nothing (with_register d value s)
+executed (Or d a b) s = goes_on Nothing (with_register d (bit_or (register s a) (operand s b)) s)
+executed (Trap a b) s = service ((register s a + operand s b) % 128) s
+executed NotBuilt s = ends (Unbuilt s.pc) s
+
+-- the word at pc runs; where there is none, that is trap 8, instruction access exception (7.6)
+abbrev pub of_word : Option ℕ → Arch → Stepped
+of_word None s = ends (Trapped 0x008 s.pc) s
+of_word (Some word) s = executed (instr word) s
+
+abbrev pub step : ImageView → Arch → Stepped
+step image s = of_word (fetched image s.pc) s
+
+abbrev pub is_running : End → Bool
+is_running Running = true
+is_running (Exit status) = false
+is_running (Trapped trap pc) = false
+is_running (Unbuilt pc) = false

@@ -1,0 +1,12 @@
+pub mod Answers
+pub mod Arch
+pub mod Command
+pub mod Instr
+pub mod Machine
+pub mod OrderText
+pub mod Parts
+pub mod Processor
+pub mod Refusals
+pub mod ReportText
+pub mod Run
+pub mod Words

@@ -1,0 +1,204 @@
+// The state of a processor between two instructions, and the step from one to the next.
+ghost use Rattle.std.specs.Prelude.{◌≡◌, ◌<◌, ◌≤◌, IsTrue};
+ghost use Rattle.rsim_top.specs.Instr.{NamesRegister, NamesRegisters};
+
+use crate::decode::{Instr, Src2, decode};
+use elf64_load::Image;
+use rsim_base::Node;
+
+// Where stacks begin, how long each is, and how far below its end %o6 points at the start: the
+// stack bias of 2,047 and a frame of 256 bytes (SPARC V9, H.1.3).
+const STACKS: u64 = 0x7F00_0000;
+
+const STACK_BYTES: u64 = 0x1_0000;
+
+const BELOW_END: u64 = 2303;
+
+// %o0, %o1 and %o6.
+const O0: u8 = 8;
+
+const O1: u8 = 9;
+
+const O6: u8 = 14;
+
+/// How a processor stands.
+#[derive(Clone, Copy, Debug, PartialEq, Eq)]
+pub enum End {
+    /// It has not ended.
+    Running,
+    /// It has exited with this status.
+    Exit(u64),
+    /// A trap of this number has ended it at this pc.
+    Trapped(u16, u64),
+    /// It has met a word at this pc whose form is not built yet.
+    Unbuilt(u64),
+}
+
+/// What a service puts into the output.
+#[derive(Clone, Copy, Debug, PartialEq, Eq)]
+pub enum Spoken {
+    /// A byte.
+    Byte(u8),
+    /// A number in decimal, and a line feed.
+    Number(u64),
+}
+
+/// What a step does beside changing the state.
+#[derive(Clone, Copy, Debug, PartialEq, Eq)]
+pub enum Act {
+    Nothing,
+    Out(Spoken),
+    /// It ends the processor.
+    End,
+}
+
+/// The state of a processor: the 32 registers that are seen at a time, the program counters, and how
+/// it stands (SPARC V9, 5.1 and 5.2).
+#[derive(Clone, Copy, Debug, PartialEq, Eq)]
+pub struct Arch {
+    pub registers: [u64; 32],
+    pub pc: u64,
+    pub npc: u64,
+    pub end: End,
+}
+
+impl End {
+    ghost use Rattle.rsim_top.specs.Arch.{is_running};
+
+    /// Whether the processor has not ended.
+    pub fn is_running(&self) -> bool
+        ensures { result ≡ is_running self.now }
+    {
+        matches!(self, End::Running)
+    }
+}
+
+impl Arch {
+    ghost use Rattle.rsim_top.specs.Arch.{register, with_register, operand, boot, service, executed, step, next, Stepped};
+
+    /// The state in which processor `p` of so many starts.
+    pub fn boot(image: &Image, p: Node, processors: u8) -> Arch
+        requires among { p.0 < processors }
+        requires most { processors ≤ 64 }
+        ensures { result ≡ boot image.now p.0 processors }
+    {
+        let mut registers = [0; 32];
+        registers[O0 as usize] = u64::from(p.0);
+        registers[O1 as usize] = u64::from(processors);
+        registers[O6 as usize] = STACKS + (u64::from(p.0) + 1) * STACK_BYTES - BELOW_END;
+        Arch {
+            registers,
+            pc: image.entry(),
+            npc: image.entry().wrapping_add(4),
+            end: End::Running,
+        }
+    }
+
+    fn register(&self, r: u8) -> u64
+        requires { r < 32 }
+        ensures { result ≡ register self.now r }
+    {
+        if r == 0 {
+            0
+        } else {
+            self.registers[r as usize]
+        }
+    }
+
+    fn set_register(&mut self, r: u8, value: u64)
+        requires { r < 32 }
+        ensures { self.new ≡ with_register r value self.old }
+    {
+        if r != 0 {
+            self.registers[r as usize] = value;
+        }
+    }
+
+    fn operand(&self, src2: Src2) -> u64
+        requires { NamesRegister src2 }
+        ensures { result ≡ operand self.now src2 }
+    {
+        match src2 {
+            Src2::Reg(r) => self.register(r),
+            Src2::Imm(value) => value,
+        }
+    }
+
+    /// Runs the instruction at pc. A step that ends the processor changes `end` alone.
+    pub fn step(&mut self, image: &Image) -> Act
+        ensures { step image.now self.old ≡ record { state = self.new; act = result } }
+    {
+        match image.fetch(self.pc) {
+            Some(word) => self.execute(decode(word)),
+            None => self.stop(End::Trapped(0x008, self.pc)),
+        }
+    }
+
+    fn execute(&mut self, instr: Instr) -> Act
+        requires { NamesRegisters instr }
+        ensures { executed instr self.old ≡ record { state = self.new; act = result } }
+    {
+        match instr {
+            Instr::Sethi { rd, value } => {
+                self.set_register(rd, value);
+                self.go_on()
+            }
+            Instr::Or { rd, rs1, src2 } => {
+                let value = self.register(rs1) | self.operand(src2);
+                self.set_register(rd, value);
+                self.go_on()
+            }
+            Instr::Trap { rs1, src2 } => {
+                let number = self.register(rs1).wrapping_add(self.operand(src2)) % 128;
+                self.serve(number as u16)
+            }
+            Instr::Unbuilt => self.stop(End::Unbuilt(self.pc)),
+        }
+    }
+
+    // A trap instruction of this number: a service, or a trap that ends the processor.
+    fn serve(&mut self, number: u16) -> Act
+        requires { number < 128 }
+        ensures { service number self.old ≡ record { state = self.new; act = result } }
+    {
+        let argument = self.register(O0);
+        match number {
+            16 => self.stop(End::Exit(argument)),
+            17 => self.speak(Spoken::Byte((argument % 256) as u8)),
+            18 => self.speak(Spoken::Number(argument)),
+            _ => self.stop(End::Trapped(0x100 + number, self.pc)),
+        }
+    }
+
+    // To the next instruction.
+    fn advance(&mut self)
+        ensures { self.new ≡ next self.old }
+    {
+        self.pc = self.npc;
+        self.npc = self.npc.wrapping_add(4);
+    }
+
+    fn go_on(&mut self) -> Act
+        ensures state { self.new ≡ next self.old }
+        ensures act { result ≡ Act.Nothing }
+    {
+        self.advance();
+        Act::Nothing
+    }
+
+    fn speak(&mut self, spoken: Spoken) -> Act
+        ensures state { self.new ≡ next self.old }
+        ensures act { result ≡ Act.Out spoken }
+    {
+        self.advance();
+        Act::Out(spoken)
+    }
+
+    fn stop(&mut self, end: End) -> Act
+        ensures state { self.new ≡ record self.old { end = end } }
+        ensures act { result ≡ Act.End }
+    {
+        self.end = end;
+        Act::End
+    }
+}

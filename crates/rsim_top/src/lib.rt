@@ -1,0 +1,16 @@
+//! All that the programs do: from the words of a command line and the outside to an answer.
+#![tactic(auto)]
+
+mod arch;
+mod command;
+mod decode;
+mod order_text;
+mod processor;
+mod refusal;
+mod report_text;
+#[cfg(test)]
+mod tests;
+mod words;
+
+pub use command::{Reported, run_command};
+pub use refusal::{File, Refusal, WordsFault};

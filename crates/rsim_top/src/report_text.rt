@@ -1,0 +1,56 @@
+// The text of a report.
+ghost use Rattle.std.specs.Prelude.{◌≡◌, ◌++◌, IfOk, OnOk, Some};
+ghost use Rattle.rsim_top.specs.Machine.{report_of};
+ghost use Rattle.rsim_top.specs.Processor.{ran_of};
+ghost use Rattle.rsim_top.specs.ReportText.{end_text};
+
+use crate::arch::End;
+use crate::processor::Processor;
+use rsim_base::NoMemory;
+use std::alloc::Global;
+use std::fmt;
+
+// What stands behind the output: no store waits, and nothing is counted yet.
+const NO_COUNTS: &str =
+    "\nunperformed 0\ncount fetched 0\ncount dispatched 0\ncount issued 0\ncount bound 0\ncount forwarded 0\ncount settled 0\ncount performed 0\ncount squashed 0\ncount mispredicts 0\ncount rollbacks 0\ncount wishes 0\ncount lost 0\nend\n";
+
+impl fmt::Display for End {
+    ghost output = { λ end. Some (end_text end) };
+
+    fn fmt<W: fmt::Write>(&self, f: &mut fmt::Formatter<W>) -> fmt::Result {
+        match self {
+            End::Running => write!(f, "running"),
+            End::Exit(status) => write!(f, "exit {status}"),
+            End::Trapped(trap, pc) => write!(f, "trap {trap:03x} {pc:016x}"),
+            End::Unbuilt(pc) => write!(f, "unbuilt {pc:016x}"),
+        }
+    }
+}
+
+/// The report of a run of one processor, whose steps took a cycle each.
+pub fn report_text(alloc: Global, processor: &Processor) -> Result<Vec<u8>, NoMemory>
+    ensures { IfOk result (λ text. text.items ≡ report_of processor.now.retired (ran_of processor.now)) }
+{
+    let Processor {
+        arch,
+        retired,
+        output,
+    } = processor;
+    let end = arch.end;
+    let length = output.len();
+    let Ok(head) = format!(in alloc;
+        "rsim report 1\ncycles {retired}\nprocessor 0 retired {retired} {end}\noutput 0 {length}\n"
+    ) else {
+        return Err(NoMemory);
+    };
+    let mut text = head.into_bytes();
+    push(&mut text, output)?;
+    push(&mut text, NO_COUNTS.as_bytes())?;
+    Ok(text)
+}
+
+fn push(text: &mut Vec<u8>, bytes: &[u8]) -> Result<(), NoMemory>
+    ensures { OnOk result (text.new.items ≡ text.old.items ++ bytes.now) }
+{
+    text.extend_from_slice(bytes).map_err(|_| NoMemory)
+}
