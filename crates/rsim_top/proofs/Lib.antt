@@ -1,4 +1,5 @@
 pub mod AnswerCases
+pub mod Exact
 pub mod Hex
 pub mod Names
 pub mod Numbers

@@ -130,3 +130,22 @@ AnswersWords (Err fault) old new result = (result ≡ Err (Words fault)) × IsUn
 
 abbrev pub Answers : List (List ℕ) → Outside → Outside → Result Reported Refusal → Type 0
 Answers words old new result = AnswersWords (asked words) old new result
+
+-- ---- the causes, the other way round
+
+-- the answer is this refusal, unless the fetch failed or memory was short
+abbrev pub IsRefused : Refusal → Result Reported Refusal → Type 0
+IsRefused why result = (result ≡ Err why) ⊎ (result ≡ Err (Read Exe)) ⊎ (result ≡ Err Memory)
+
+-- the shelf tells its files, and has this one under the name
+pub record IsHeld (told : Option Files) (name file : List ℕ) : Type 0 where
+  pub files : Files
+  pub are_told : told ≡ Some files
+  pub found : get files name ≡ Some file
+
+-- Words that are wrong are always refused so, and an executable that is too long or has no image is never
+-- run.
+pub record IsExact (words : List (List ℕ)) (old : Outside) (result : Result Reported Refusal) : Type 0 where
+  pub wrong_words : (fault : WordsFault) → asked words ≡ Err fault → result ≡ Err (Words fault)
+  pub too_long : (want : Asked) (file : List ℕ) → asked words ≡ Ok want → IsHeld old.files want.exe file → longest_exe < length file → IsRefused (Big Exe) result
+  pub no_image : (want : Asked) (file : List ℕ) → asked words ≡ Ok want → IsHeld old.files want.exe file → length file ≤ longest_exe → image_of file ≡ None → IsRefused (Elf Unbuilt) result

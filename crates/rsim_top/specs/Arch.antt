@@ -1,7 +1,7 @@
 -- The state of a processor between two instructions, and what one instruction makes of it: the meaning
 -- of the instruction set, one instruction at a time (The SPARC Architecture Manual, Version 9).
 -- Registers hold numbers below 2^64, and sums go round there.
-use Rattle.std.specs.Prelude.{ℕ, ◌+◌, ◌-◌, ◌*◌, ◌%◌, ◌^◌, ◌==◌, Bool, true, false, if◌then◌else◌, replicate, slice_index, slice_set, Option, Some, None, bit_or}
+use Rattle.std.specs.Prelude.{ℕ, ◌+◌, ◌-◌, ◌*◌, ◌%◌, ◌^◌, ◌==◌, Bool, true, false, if◌then◌else◌, replicate, slice_index, slice_set, Option, Some, None, bit_or, bit_xor, not, ◌||◌, nat_le}
 use Rattle.elf64_load.specs.Image.{ImageView, fetched}
 use Rattle.rsim_top.specs.declared.arch.Arch.{Arch}
 use Rattle.rsim_top.specs.declared.arch.End.{End}
@@ -10,7 +10,11 @@ use Rattle.rsim_top.specs.declared.arch.Act.{Act}
 use Rattle.rsim_top.specs.declared.arch.Act.TheVariants.{Nothing, Out, End as Ended}
 use Rattle.rsim_top.specs.declared.arch.Spoken.TheVariants.{Byte, Number}
 use Rattle.rsim_top.specs.declared.decode.Instr.{Instr}
-use Rattle.rsim_top.specs.declared.decode.Instr.TheVariants.{Sethi, Or, Trap, Unbuilt as NotBuilt}
+use Rattle.rsim_top.specs.declared.decode.Instr.TheVariants.{Sethi, Compute, Branch, Trap, Unbuilt as NotBuilt}
+use Rattle.rsim_top.specs.declared.decode.Function.{Function}
+use Rattle.rsim_top.specs.declared.decode.Function.TheVariants.{Add, Sub, Or, Xor}
+use Rattle.rsim_top.specs.declared.decode.Condition.{Condition}
+use Rattle.rsim_top.specs.declared.decode.Condition.TheVariants.{Zero, LessOrZero, Less, NotZero, Greater, GreaterOrZero}
 use Rattle.rsim_top.specs.declared.decode.Src2.{Src2}
 use Rattle.rsim_top.specs.declared.decode.Src2.TheVariants.{Reg, Imm}
 use Rattle.rsim_top.specs.Instr.{instr}
@@ -72,9 +76,44 @@ service number s =
     else (if number == 18 then goes_on (Out (Number (argument s))) s
     else ends (Trapped (0x100 + number) s.pc) s))
 
+-- what an instruction of two operands computes
+abbrev pub computed : Function → ℕ → ℕ → ℕ
+computed Add a b = (a + b) % 2 ^ 64
+computed Sub a b = (a + (2 ^ 64 - b)) % 2 ^ 64
+computed Or a b = bit_or a b
+computed Xor a b = bit_xor a b
+
+-- a register is below 0 as a signed number
+abbrev pub is_negative : ℕ → Bool
+is_negative value = nat_le (2 ^ 63) value
+
+abbrev pub holds : Condition → ℕ → Bool
+holds Zero value = value == 0
+holds LessOrZero value = (value == 0) || is_negative value
+holds Less value = is_negative value
+holds NotZero value = not (value == 0)
+holds Greater value = not ((value == 0) || is_negative value)
+holds GreaterOrZero value = not (is_negative value)
+
+-- a branch that is taken runs the instruction behind it, the delay slot, and then goes to its target
+abbrev pub taken : ℕ → Arch → Arch
+taken target s = record s { pc = s.npc; npc = target }
+
+-- an annulled delay slot is not run
+abbrev pub past_slot : Arch → Arch
+past_slot s = record s { pc = (s.npc + 4) % 2 ^ 64; npc = (s.npc + 8) % 2 ^ 64 }
+
+-- where a branch leads (6.3.4): one that is not taken runs its slot, unless its annul bit is set
+abbrev pub branched : Bool → Bool → ℕ → Arch → Arch
+branched goes annul target s = if goes then taken target s else (if annul then past_slot s else next s)
+
 abbrev pub executed : Instr → Arch → Stepped
 executed (Sethi d value) s = goes_on Nothing (with_register d value s)
-executed (Or d a b) s = goes_on Nothing (with_register d (bit_or (register s a) (operand s b)) s)
+executed (Compute function d a b) s = goes_on Nothing (with_register d (computed function (register s a) (operand s b)) s)
+executed (Branch condition a annul displacement) s = record {
+  state = branched (holds condition (register s a)) annul ((s.pc + displacement) % 2 ^ 64) s;
+  act = Nothing;
+}
 executed (Trap a b) s = service ((register s a + operand s b) % 128) s
 executed NotBuilt s = ends (Unbuilt s.pc) s
 

@@ -1,9 +1,13 @@
 -- The instruction of a 32-bit word, as a table of forms (The SPARC Architecture Manual, Version 9,
 -- chapter 6 and appendices A and E): one row for each form, with the values of the fields that tell it
 -- and the instruction that such a word gives. A word that no row fits is of a form not built yet.
-use Rattle.std.specs.Prelude.{ℕ, ◌+◌, ◌-◌, ◌*◌, ◌/◌, ◌%◌, ◌^◌, ◌<◌, ◌==◌, Bool, ◌&&◌, nat_lt, if◌then◌else◌, List, [], ◌∷◌}
+use Rattle.std.specs.Prelude.{◌≡◌, ◌⊎◌, ℕ, ◌+◌, ◌-◌, ◌*◌, ◌/◌, ◌%◌, ◌^◌, ◌<◌, ◌==◌, Bool, ◌&&◌, nat_lt, if◌then◌else◌, List, [], ◌∷◌, Option, Some, None}
 use Rattle.rsim_top.specs.declared.decode.Instr.{Instr}
-use Rattle.rsim_top.specs.declared.decode.Instr.TheVariants.{Sethi, Or, Trap, Unbuilt}
+use Rattle.rsim_top.specs.declared.decode.Instr.TheVariants.{Sethi, Compute, Branch, Trap, Unbuilt}
+use Rattle.rsim_top.specs.declared.decode.Function.{Function}
+use Rattle.rsim_top.specs.declared.decode.Function.TheVariants.{Add, Sub, Or, Xor}
+use Rattle.rsim_top.specs.declared.decode.Condition.{Condition}
+use Rattle.rsim_top.specs.declared.decode.Condition.TheVariants.{Zero, LessOrZero, Less, NotZero, Greater, GreaterOrZero}
 use Rattle.rsim_top.specs.declared.decode.Src2.{Src2}
 use Rattle.rsim_top.specs.declared.decode.Src2.TheVariants.{Reg, Imm}
 
@@ -41,6 +45,17 @@ imm22 word = bits 21 0 word
 abbrev pub simm13 : ℕ → ℕ
 simm13 word = let low = bits 12 0 word in if nat_lt low 4096 then low else low + (2 ^ 64 - 8192)
 
+-- the condition of BPr
+abbrev pub rcond : ℕ → ℕ
+rcond word = bits 27 25 word
+
+-- the displacement of BPr in bytes: 16 bits in two fields, a signed number of words, in two's complement
+-- of 64 bits
+abbrev pub displacement16 : ℕ → ℕ
+displacement16 word =
+    let words = bits 21 20 word * 2 ^ 14 + bits 13 0 word in
+    if nat_lt words 32768 then 4 * words else 4 * words + (2 ^ 64 - 262144)
+
 -- operand 2: the immediate where the bit i is set, else the register rs2
 abbrev pub operand2 : ℕ → Src2
 operand2 word = if bits 13 13 word == 1 then Imm (simm13 word) else Reg (bits 4 0 word)
@@ -58,11 +73,18 @@ sethi = record {
   gives = λ word. Sethi (rd word) (imm22 word * 1024);
 }
 
--- OR (A.31)
-abbrev pub or : Form
-or = record {
-  fits = λ word. (op word == 2) && (op3 word == 0x02);
-  gives = λ word. Or (rd word) (rs1 word) (operand2 word);
+-- BPr (A.3), by the code of its condition
+abbrev pub branch : ℕ → Condition → Form
+branch code condition = record {
+  fits = λ word. (op word == 0) && (op2 word == 3) && (bits 28 28 word == 0) && (rcond word == code);
+  gives = λ word. Branch condition (rs1 word) (bits 29 29 word == 1) (displacement16 word);
+}
+
+-- an instruction of two operands, by its op3
+abbrev pub compute : ℕ → Function → Form
+compute code function = record {
+  fits = λ word. (op word == 2) && (op3 word == code);
+  gives = λ word. Compute function (rd word) (rs1 word) (operand2 word);
 }
 
 -- Tcc (A.59), always taken
@@ -72,8 +94,13 @@ trap_always = record {
   gives = λ word. Trap (rs1 word) (operand2 word);
 }
 
+-- ADD (A.2), OR and XOR (A.31), SUB (A.57)
 abbrev pub forms : List Form
-forms = sethi ∷ or ∷ trap_always ∷ []
+forms =
+    sethi
+    ∷ branch 1 Zero ∷ branch 2 LessOrZero ∷ branch 3 Less ∷ branch 5 NotZero ∷ branch 6 Greater ∷ branch 7 GreaterOrZero
+    ∷ compute 0x00 Add ∷ compute 0x02 Or ∷ compute 0x03 Xor ∷ compute 0x04 Sub
+    ∷ trap_always ∷ []
 
 -- the instruction of the first form that fits
 abbrev pub first_of : List Form → ℕ → Instr
@@ -90,6 +117,17 @@ NamesRegister (Imm value) = Unit {0}
 
 abbrev pub NamesRegisters : Instr → Type 0
 NamesRegisters (Sethi d value) = d < 32
-NamesRegisters (Or d a b) = (d < 32) × (a < 32) × NamesRegister b
+NamesRegisters (Compute function d a b) = (d < 32) × (a < 32) × NamesRegister b
+NamesRegisters (Branch condition a annul displacement) = a < 32
 NamesRegisters (Trap a b) = (a < 32) × NamesRegister b
 NamesRegisters Unbuilt = Unit {0}
+
+-- the code of a condition of BPr; 0 and 4 are of none
+abbrev pub HasCode : ℕ → Option Condition → Type 0
+HasCode code (Some Zero) = code ≡ 1
+HasCode code (Some LessOrZero) = code ≡ 2
+HasCode code (Some Less) = code ≡ 3
+HasCode code (Some NotZero) = code ≡ 5
+HasCode code (Some Greater) = code ≡ 6
+HasCode code (Some GreaterOrZero) = code ≡ 7
+HasCode code None = (code ≡ 0) ⊎ (code ≡ 4)

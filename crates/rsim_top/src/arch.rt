@@ -2,7 +2,7 @@
 ghost use Rattle.std.specs.Prelude.{◌≡◌, ◌<◌, ◌≤◌, IsTrue};
 ghost use Rattle.rsim_top.specs.Instr.{NamesRegister, NamesRegisters};
 
-use crate::decode::{Instr, Src2, decode};
+use crate::decode::{Condition, Function, Instr, Src2, decode};
 use elf64_load::Image;
 use rsim_base::Node;
 
@@ -73,8 +73,43 @@ impl End {
     }
 }
 
+impl Function {
+    ghost use Rattle.rsim_top.specs.Arch.{computed};
+
+    // Its value. Sums and differences are modulo 2^64.
+    fn of(self, a: u64, b: u64) -> u64
+        ensures { result ≡ computed self a b }
+    {
+        match self {
+            Function::Add => a.wrapping_add(b),
+            Function::Sub => a.wrapping_sub(b),
+            Function::Or => a | b,
+            Function::Xor => a ^ b,
+        }
+    }
+}
+
+impl Condition {
+    ghost use Rattle.rsim_top.specs.Arch.{holds};
+
+    // Whether it is true of a register.
+    fn holds(self, value: u64) -> bool
+        ensures { result ≡ holds self value }
+    {
+        let negative = value >= 1 << 63;
+        match self {
+            Condition::Zero => value == 0,
+            Condition::LessOrZero => value == 0 || negative,
+            Condition::Less => negative,
+            Condition::NotZero => value != 0,
+            Condition::Greater => value != 0 && !negative,
+            Condition::GreaterOrZero => !negative,
+        }
+    }
+}
+
 impl Arch {
-    ghost use Rattle.rsim_top.specs.Arch.{register, with_register, operand, boot, service, executed, step, next, Stepped};
+    ghost use Rattle.rsim_top.specs.Arch.{register, with_register, operand, boot, service, executed, step, next, branched, Stepped};
 
     /// The state in which processor `p` of so many starts.
     pub fn boot(image: &Image, p: Node, processors: u8) -> Arch
@@ -143,10 +178,26 @@ impl Arch {
                 self.set_register(rd, value);
                 self.go_on()
             }
-            Instr::Or { rd, rs1, src2 } => {
-                let value = self.register(rs1) | self.operand(src2);
+            Instr::Compute {
+                function,
+                rd,
+                rs1,
+                src2,
+            } => {
+                let value = function.of(self.register(rs1), self.operand(src2));
                 self.set_register(rd, value);
                 self.go_on()
+            }
+            Instr::Branch {
+                condition,
+                rs1,
+                annul,
+                displacement,
+            } => {
+                let target = self.pc.wrapping_add(displacement);
+                let goes = condition.holds(self.register(rs1));
+                self.branch(goes, annul, target);
+                Act::Nothing
             }
             Instr::Trap { rs1, src2 } => {
                 let number = self.register(rs1).wrapping_add(self.operand(src2)) % 128;
@@ -176,6 +227,21 @@ impl Arch {
     {
         self.pc = self.npc;
         self.npc = self.npc.wrapping_add(4);
+    }
+
+    // To the delay slot and then the target, or on.
+    fn branch(&mut self, goes: bool, annul: bool, target: u64)
+        ensures { self.new ≡ branched goes annul target self.old }
+    {
+        if goes {
+            self.pc = self.npc;
+            self.npc = target;
+        } else if annul {
+            self.pc = self.npc.wrapping_add(4);
+            self.npc = self.npc.wrapping_add(8);
+        } else {
+            self.advance();
+        }
     }
 
     fn go_on(&mut self) -> Act

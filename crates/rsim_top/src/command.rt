@@ -1,7 +1,7 @@
 // The top call.
 ghost use Rattle.std.specs.Prelude.{◌≡◌, ◌≤◌, map, string_bytes, IfOk, IfErr, IsErrOf, OnOk, OnErr};
 ghost use Rattle.rsim_io.specs.Faults.{HasCause};
-ghost use Rattle.rsim_top.specs.Answers.{Answers, IsExecutable, HasFile, HasPartOfFile, HasWritten, HasPartWritten};
+ghost use Rattle.rsim_top.specs.Answers.{Answers, IsExact, IsExecutable, HasFile, HasPartOfFile, HasWritten, HasPartWritten};
 ghost use Rattle.rsim_top.specs.Machine.{order_of, report_of};
 ghost use Rattle.rsim_top.specs.Parts.{FailsToFetch, HasRunFile, FailsToRun, FailsToOrder, FailsToReport};
 ghost use Rattle.rsim_top.specs.Processor.{ran_of};
@@ -35,6 +35,26 @@ pub struct Reported {
 /// The first refusal, in the order of the variants of `Refusal`. Only the words, the executable's
 /// length and its form, and failures of the shelf or the sink lead to one, beside want of memory.
 pub fn run_command<S: Shelf, K: Sink>(
+    alloc: Global,
+    words: &Vec<String>,
+    shelf: &mut S,
+    out: &mut K,
+) -> Result<Reported, Refusal>
+    ensures answer { Answers (map string_bytes words.now.items)
+        (record { files = S.holds shelf.old; shelf_faults = S.faults shelf.old; written = K.written out.old; sink_faults = K.faults out.old })
+        (record { files = S.holds shelf.new; shelf_faults = S.faults shelf.new; written = K.written out.new; sink_faults = K.faults out.new })
+        result }
+    ensures exactly { IsExact (map string_bytes words.now.items)
+        (record { files = S.holds shelf.old; shelf_faults = S.faults shelf.old; written = K.written out.old; sink_faults = K.faults out.old })
+        result }
+    ensures shelf_faults { S.faults shelf.old ≤ S.faults shelf.new }
+    ensures sink_faults { K.faults out.old ≤ K.faults out.new }
+{
+    run_words(alloc, words, shelf, out)
+}
+
+// As `run_command`.
+fn run_words<S: Shelf, K: Sink>(
     alloc: Global,
     words: &Vec<String>,
     shelf: &mut S,

@@ -94,103 +94,176 @@ fn a_program_prints_a_number_and_exits(rt: HostRuntime) -> Result<(), Fail> {
     Ok(())
 }
 
-// Runs the words to their end, and tells whether the processor line ends so and the output is this.
+// Whether a program retires so many steps in as many cycles and ends so, with this output.
 fn ends_as(
     alloc: Global,
     code: &[u32],
     cycles: &str,
+    steps: u32,
     line: &str,
     output: &str,
 ) -> Result<bool, Fail> {
     let mut shelf = shelf_with(alloc, &executable(alloc, code)?, &[])?;
     let mut out = sink(alloc, &[])?;
     let words = words(alloc, &["exe", cycles, "order"])?;
-    let Reported { cycles, retired } = run_command(alloc, &words, &mut shelf, &mut out)?;
+    run_command(alloc, &words, &mut shelf, &mut out)?;
     let length = output.len();
     let report = format!(in alloc;
-        "rsim report 1\ncycles {cycles}\nprocessor 0 retired {retired} {line}\noutput 0 {length}\n{output}\n{COUNTS}"
+        "rsim report 1\ncycles {steps}\nprocessor 0 retired {steps} {line}\noutput 0 {length}\n{output}\n{COUNTS}"
     )?;
-    let order = format!(in alloc; "rsim order 1\nmodel sc\nprocessors 1\nend {retired}\n")?;
+    let order = format!(in alloc; "rsim order 1\nmodel sc\nprocessors 1\nend {steps}\n")?;
     Ok(out.bytes() == report.as_bytes() && holds(&shelf, "order", order.as_bytes()))
+}
+
+#[test]
+fn a_run_stops_at_its_bound(rt: HostRuntime) -> Result<(), Fail> {
+    let code = [0x9010202A, 0x91D02012, 0x91D02010];
+    assert!(rt; ends_as(rt.alloc(), &code, "1", 1, "running", "")?);
+    assert!(rt; ends_as(rt.alloc(), &code, "2", 2, "running", "42\n")?);
+    Ok(())
 }
 
 #[test]
 fn programs_end_as_the_manual_says(rt: HostRuntime) -> Result<(), Fail> {
     let alloc = rt.alloc();
-    // the bound on the cycles
-    assert!(rt;
-        ends_as(
-            alloc,
-            &[0x9010202A, 0x91D02012, 0x91D02010],
-            "1",
-            "running",
-            ""
-        )?
-    );
-    // a form that is not built: JMPL
-    assert!(rt; ends_as(alloc, &[0x81C06000], "9", "unbuilt 0000000000100000", "")?);
-    // no instruction behind the text, after a NOP
-    assert!(rt; ends_as(alloc, &[0x01000000], "9", "trap 008 0000000000100004", "")?);
-    // a trap that is no service
-    assert!(rt; ends_as(alloc, &[0x91D02005], "9", "trap 105 0000000000100000", "")?);
-    // the low byte of %o0, and then the exit
-    assert!(rt;
-        ends_as(
-            alloc,
-            &[0x90102141, 0x91D02011, 0x91D02010],
-            "9",
-            "exit 321",
-            "A"
-        )?
-    );
-    // SETHI shifts by ten bits
-    assert!(rt;
-        ends_as(
-            alloc,
+    let cases: [(&[u32], u32, &str, &str); 19] = [
+        // a form that is not built: JMPL
+        (&[0x81C06000], 1, "unbuilt 0000000000100000", ""),
+        // no instruction behind the text, after a NOP
+        (&[0x01000000], 2, "trap 008 0000000000100004", ""),
+        // a trap that is no service
+        (&[0x91D02005], 1, "trap 105 0000000000100000", ""),
+        // the low byte of %o0, and then the exit
+        (&[0x90102141, 0x91D02011, 0x91D02010], 3, "exit 321", "A"),
+        // SETHI shifts by ten bits
+        (
             &[0x11000001, 0x91D02012, 0x91D02010],
-            "9",
+            3,
             "exit 1024",
-            "1024\n"
-        )?
-    );
-    // an immediate is signed
-    assert!(rt;
-        ends_as(
-            alloc,
+            "1024\n",
+        ),
+        // an immediate is signed
+        (
             &[0x90103FFF, 0x91D02010],
-            "9",
+            2,
             "exit 18446744073709551615",
-            ""
-        )?
-    );
-    // register 0 reads 0 after it was written
-    assert!(rt;
-        ends_as(
-            alloc,
-            &[0x01000001, 0x90100000, 0x91D02010],
-            "9",
+            "",
+        ),
+        // register 0 reads 0 after it was written
+        (&[0x01000001, 0x90100000, 0x91D02010], 3, "exit 0", ""),
+        // at the start %o1 is the number of processors, and %o6 is 0x7F00F701
+        (&[0x90100009, 0x91D02010], 2, "exit 1", ""),
+        (&[0x9010000E, 0x91D02010], 2, "exit 2130769665", ""),
+        // OR of two registers: 1 or 1024
+        (&[0x11000001, 0x90120009, 0x91D02010], 3, "exit 1025", ""),
+        // the number of a trap is a sum: 1 and 15
+        (&[0x91D2600F], 1, "exit 0", ""),
+        // Tcc under another condition, or with a reserved cc, is not built
+        (&[0x81D02010], 1, "unbuilt 0000000000100000", ""),
+        (&[0x91D02810], 1, "unbuilt 0000000000100000", ""),
+        // -1 + 2
+        (&[0x90103FFF, 0x90022002, 0x91D02010], 3, "exit 1", ""),
+        // 0 - 1
+        (
+            &[0x90202001, 0x91D02010],
+            2,
+            "exit 18446744073709551615",
+            "",
+        ),
+        // %o1 - 3, with 1 in %o1
+        (
+            &[0x90226003, 0x91D02010],
+            2,
+            "exit 18446744073709551614",
+            "",
+        ),
+        // 12 xor 10
+        (&[0x9010200C, 0x901A200A, 0x91D02010], 3, "exit 6", ""),
+        // 41 + %o1
+        (&[0x90102029, 0x90020009, 0x91D02010], 3, "exit 42", ""),
+        // a sum into register 0 is lost
+        (&[0x80022007, 0x90000000, 0x91D02010], 3, "exit 0", ""),
+    ];
+    for (code, steps, line, output) in cases {
+        assert!(rt;
+            ends_as(alloc, code, "99", steps, line, output)?,
+            "{code:?}"
+        );
+    }
+    Ok(())
+}
+
+#[test]
+fn branches_run_or_annul_their_slots(rt: HostRuntime) -> Result<(), Fail> {
+    let alloc = rt.alloc();
+    let cases: [(&[u32], u32, &str); 11] = [
+        // taken: the slot puts 7 into %o0, and the trap behind it is passed
+        (
+            &[0x02C80003, 0x90102007, 0x91D02005, 0x91D02010],
+            3,
+            "exit 7",
+        ),
+        // not taken: the slot runs
+        (&[0x0AC80003, 0x90102007, 0x91D02010], 3, "exit 7"),
+        // taken with the annul bit: the slot runs
+        (
+            &[0x22C80003, 0x90102007, 0x91D02005, 0x91D02010],
+            3,
+            "exit 7",
+        ),
+        // not taken with the annul bit: the slot is not run
+        (&[0x2AC80003, 0x90102007, 0x91D02010], 2, "exit 0"),
+        // three times round a loop that counts %o0 down from 3
+        (
+            &[0x90102003, 0x90222001, 0x0AFA3FFF, 0x01000000, 0x91D02010],
+            11,
             "exit 0",
-            ""
-        )?
-    );
-    // at the start %o1 is the number of processors, and %o6 is 0x7F00F701
-    assert!(rt; ends_as(alloc, &[0x90100009, 0x91D02010], "9", "exit 1", "")?);
-    assert!(rt; ends_as(alloc, &[0x9010000E, 0x91D02010], "9", "exit 2130769665", "")?);
-    // OR of two registers: 1 or 1024
-    assert!(rt;
-        ends_as(
-            alloc,
-            &[0x11000001, 0x90120009, 0x91D02010],
-            "9",
-            "exit 1025",
-            ""
-        )?
-    );
-    // the number of a trap is a sum: 1 and 15
-    assert!(rt; ends_as(alloc, &[0x91D2600F], "9", "exit 0", "")?);
-    // Tcc under another condition, or with a reserved cc, is not built
-    assert!(rt; ends_as(alloc, &[0x81D02010], "9", "unbuilt 0000000000100000", "")?);
-    assert!(rt; ends_as(alloc, &[0x91D02810], "9", "unbuilt 0000000000100000", "")?);
+        ),
+        // a branch in the slot of another: one instruction at the first target, then the second
+        (
+            &[
+                0x02C80004, 0x02C80005, 0x91D02001, 0x91D02002, 0x90102009, 0x91D02003, 0x91D02010,
+            ],
+            4,
+            "exit 9",
+        ),
+        // the ends of the displacement: 32,768 words back, 32,767 words on
+        (&[0x02E80000, 0x01000000], 3, "trap 008 00000000000e0000"),
+        (&[0x02D83FFF, 0x01000000], 3, "trap 008 000000000011fffc"),
+        // the reserved conditions, and a set bit 28
+        (&[0x00C80002], 1, "unbuilt 0000000000100000"),
+        (&[0x08C80002], 1, "unbuilt 0000000000100000"),
+        (&[0x12C80002], 1, "unbuilt 0000000000100000"),
+    ];
+    for (code, steps, line) in cases {
+        assert!(rt; ends_as(alloc, code, "99", steps, line, "")?, "{code:?}");
+    }
+    Ok(())
+}
+
+#[test]
+fn conditions_read_a_register_as_a_signed_number(rt: HostRuntime) -> Result<(), Fail> {
+    let alloc = rt.alloc();
+    // by condition, whether it is true of -1, 0 and 1
+    let conditions = [
+        (0x02CA8003, [false, true, false]),
+        (0x04CA8003, [true, true, false]),
+        (0x06CA8003, [true, false, false]),
+        (0x0ACA8003, [true, false, true]),
+        (0x0CCA8003, [false, false, true]),
+        (0x0ECA8003, [false, true, true]),
+    ];
+    for (branch, goes) in conditions {
+        // %o2 becomes -1, 0 or 1; where the branch on it is taken, %o0 becomes 1 before the exit
+        for (set, taken) in [0x94103FFF, 0x94102000, 0x94102001].into_iter().zip(goes) {
+            let code = [set, branch, 0x01000000, 0x91D02010, 0x90102001, 0x91D02010];
+            let (steps, line) = if taken { (5, "exit 1") } else { (4, "exit 0") };
+            assert!(rt;
+                ends_as(alloc, &code, "99", steps, line, "")?,
+                "{branch:x} of {set:x}"
+            );
+        }
+    }
     Ok(())
 }
 
