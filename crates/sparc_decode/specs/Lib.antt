@@ -1,0 +1,6 @@
+pub mod Effects
+pub mod Fields
+pub mod Forms
+pub mod Instr
+pub mod Laws
+pub mod Ranges

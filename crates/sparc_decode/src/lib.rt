@@ -1,0 +1,22 @@
+//! SPARC V9 instruction words: what each of them says, and what it reads and writes.
+#![tactic(auto)]
+
+mod arithmetic;
+mod branches;
+mod decoder;
+mod effects;
+mod fields;
+mod forms;
+mod instr;
+mod laws;
+mod memory;
+mod operands;
+
+pub use decoder::decode;
+pub use effects::{dest, sources, window_effect};
+pub use instr::{Instr, Op, Src2};
+pub use laws::{each_row_decides, no_word_fits_two_rows, unnamed_bits_are_free};
+pub use operands::{Dest, Sources, WindowEffect};
+
+#[cfg(test)]
+mod tests;
