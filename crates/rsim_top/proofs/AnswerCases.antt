@@ -12,6 +12,7 @@ use Rattle.rsim_top.specs.Machine.{order_of, report_of}
 use Rattle.rsim_top.specs.Parts.{HasRunFile, FailsToOrder, FailsToReport}
 use Rattle.rsim_top.specs.Processor.{ran_of}
 use Rattle.rsim_top.specs.Words.{Asked, asked}
+use Rattle.rsim_top.proofs.Fits.{Fit-from_sound}
 
 -- good words are answered as what they ask for is
 Answers-from_asked : (words : List (List ℕ)) (want : Asked) (old new : Outside) (result : Result Reported Refusal) → asked words ≡ Ok want → AnswersAsked old new want result → Answers words old new result
@@ -29,8 +30,9 @@ asked_run old want file p executable run = record {
   image = run.0;
   loaded = run.1;
   steps = p.retired;
+  order = p.order.items;
   ran = ran_of p;
-  runs = run.2.has_run;
+  fits = Fit-from_sound run.0 p run.2.sound;
   within = run.2.within;
   over = run.2.over;
 }
@@ -38,14 +40,14 @@ asked_run old want file p executable run = record {
 -- the order was not written whole
 pub Answers-at_order : (words : List (List ℕ)) (want : Asked) (old new : Outside) (file : List ℕ) (p : Processor) (mid : Option Files) (mid_faults : ℕ) (why : Refusal) →
     asked words ≡ Ok want → IsExecutable old.files want.exe file → HasRunFile file want.cycles p → mid ≡ old.files → old.shelf_faults ≤ mid_faults →
-    HasPartOfFile want.order (order_of p.retired) mid new.files → FailsToOrder mid_faults new.shelf_faults why → new.written ≡ old.written → Answers words old new (Err why)
+    HasPartOfFile want.order (order_of p.order.items p.retired) mid new.files → FailsToOrder mid_faults new.shelf_faults why → new.written ≡ old.written → Answers words old new (Err why)
 Answers-at_order words want old new file p mid mid_faults why good executable run same later part fails written =
     Answers-from_asked words want old new (Err why) good (by_cause why fails)
   where
     stops : StopsAtOrder old new want
     stops = record {
       made = asked_run old want file p executable run;
-      order = subst (λ files. HasPartOfFile want.order (order_of p.retired) files new.files) same part;
+      order = subst (λ files. HasPartOfFile want.order (order_of p.order.items p.retired) files new.files) same part;
       report = written;
     }
 
@@ -62,7 +64,7 @@ Answers-at_order words want old new file p mid mid_faults why good executable ru
 -- the report was not written whole
 pub Answers-at_report : (words : List (List ℕ)) (want : Asked) (old new : Outside) (file : List ℕ) (p : Processor) (mid : Option Files) (why : Refusal) →
     asked words ≡ Ok want → IsExecutable old.files want.exe file → HasRunFile file want.cycles p → mid ≡ old.files →
-    HasFile want.order (order_of p.retired) mid new.files → FailsToReport old.sink_faults new.sink_faults why →
+    HasFile want.order (order_of p.order.items p.retired) mid new.files → FailsToReport old.sink_faults new.sink_faults why →
     HasPartWritten (report_of p.retired (ran_of p)) old.written new.written → Answers words old new (Err why)
 Answers-at_report words want old new file p mid why good executable run same order fails part =
     Answers-from_asked words want old new (Err why) good (by_cause why fails)
@@ -70,7 +72,7 @@ Answers-at_report words want old new file p mid why good executable run same ord
     stops : StopsAtReport old new want
     stops = record {
       made = asked_run old want file p executable run;
-      order = subst (λ files. HasFile want.order (order_of p.retired) files new.files) same order;
+      order = subst (λ files. HasFile want.order (order_of p.order.items p.retired) files new.files) same order;
       report = part;
     }
 
@@ -87,12 +89,12 @@ Answers-at_report words want old new file p mid why good executable run same ord
 -- order and report are whole
 pub Answers-at_end : (words : List (List ℕ)) (want : Asked) (old new : Outside) (file : List ℕ) (p : Processor) (mid : Option Files) →
     asked words ≡ Ok want → IsExecutable old.files want.exe file → HasRunFile file want.cycles p → mid ≡ old.files →
-    HasFile want.order (order_of p.retired) mid new.files → HasWritten (report_of p.retired (ran_of p)) old.written new.written →
+    HasFile want.order (order_of p.order.items p.retired) mid new.files → HasWritten (report_of p.retired (ran_of p)) old.written new.written →
     Answers words old new (Ok (record { cycles = p.retired; retired = p.retired }))
 Answers-at_end words want old new file p mid good executable run same order report =
     Answers-from_asked words want old new (Ok (record { cycles = p.retired; retired = p.retired })) good (record {
       made = asked_run old want file p executable run;
       steps = refl;
-      order = subst (λ files. HasFile want.order (order_of p.retired) files new.files) same order;
+      order = subst (λ files. HasFile want.order (order_of p.order.items p.retired) files new.files) same order;
       report = report;
     })

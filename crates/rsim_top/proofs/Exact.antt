@@ -11,9 +11,7 @@ use Rattle.rsim_top.specs.declared.refusal.Refusal.{Refusal}
 use Rattle.rsim_top.specs.declared.refusal.Refusal.TheVariants.{Words, Read, Big, Elf, Write, Memory}
 use Rattle.rsim_top.specs.Answers.{Outside, Answers, AnswersWords, AnswersAsked, IsExact, IsExecutable, IsHeld, IsRefused, IsTooLong, longest_exe}
 use Rattle.rsim_top.specs.Words.{Asked, asked}
-
-Some-injective : {A : Type 0} {x y : A} → Some x ≡ Some y → x ≡ y
-Some-injective e = cc
+use Rattle.rsim_top.proofs.Places.{Some-injective}
 
 -- the file that a run read is the one that was held
 same_file : (told : Option Files) (name file held : List ℕ) → IsExecutable told name file → IsHeld told name held → file ≡ held

@@ -2,7 +2,7 @@
 use Rattle.std.proofs.Common.{◌≡◌, ℕ, ◌-◌, ◌^◌, false, [], append-nil}
 use native.Mathlib.Numerals.{unary_clauses}
 use Rattle.std.specs.Fmt.{padded_integral, format_spec, digits, char_count}
-use Rattle.rsim_top.specs.ReportText.{hex}
+use Rattle.rsim_top.specs.Hex.{hex}
 
 pub padded_integral-hex : (width n : ℕ) → padded_integral (format_spec 32 0 4 width (2 ^ 64 - 1)) false [] (digits 16 false n) ≡ hex width n
 unfolding padded_integral char_count

@@ -1,8 +1,14 @@
 pub mod AnswerCases
+pub mod Doublewords
 pub mod Exact
+pub mod Fits
 pub mod Hex
+pub mod LastStores
 pub mod Names
 pub mod Numbers
+pub mod OrderFiles
+pub mod Places
 pub mod Runs
+pub mod Sound
 pub mod Stored
 pub mod Texts

@@ -1,13 +1,15 @@
--- What stands after a file was made and written, or not whole, and after some of a stream was.
-use Rattle.std.proofs.Common.{◌≡◌, ℕ, List, [], ◌++◌, Option, Some, None, Result, Ok, Err, Bool, true, false, cond, take, option_map, unwrap_or, OnOk, OnErr, refl, sym, ap, ◌∙◌, inl, inr, ⊎_elim, append-nil, nat_cmp}
+-- What stands after a file was made and written in pieces, or not whole, and after some of a stream was.
+use Rattle.std.proofs.Common.{◌≡◌, ℕ, List, [], ◌++◌, Option, Some, None, Result, Ok, Err, Bool, true, false, cond, take, drop, option_map, unwrap_or, OnOk, OnErr, refl, sym, ap, ◌∙◌, inl, inr, ⊎_elim, append-nil, append_assoc, subst, nat_cmp}
+use Rattle.std.proofs.lemmas.List.{take-append-drop}
 use Rattle.std.specs.Ordering.{eq_by_cmp}
 use Rattle.std.specs.Cmp.{eq_by_cmp_equiv}
 use Rattle.std.specs.Cmp.Lexicographic.{slice_cmp, nat_list_cmp_total}
 use Rattle.std.specs.FinMap.{get, insert, get-insert, same_map, slice_cmp-IsAntisymmetric, nat_cmp-IsAntisymmetric}
-use Rattle.rsim_io.specs.Files.{Files, with_empty, with_more, Creates, Appends}
+use Rattle.rsim_io.specs.Files.{Files, with_more, Creates, Appends}
+use Rattle.rsim_io.specs.Written.{Puts}
 use Rattle.rsim_io.specs.declared.shelf.StoreFault.{StoreFault}
 use Rattle.rsim_io.specs.declared.shelf.StoreFault.TheVariants.{Failed, Memory}
-use Rattle.rsim_top.specs.Answers.{HasFile, HasPartOfFile, HasPartWritten}
+use Rattle.rsim_top.specs.Answers.{IsPart, HasFile, HasPartOfFile, HasPartWritten}
 
 -- the bytes of a name that was just set
 get-insert_same : (files : Files) (name bytes : List ℕ) → get (insert files name bytes) name ≡ Some bytes
@@ -28,36 +30,73 @@ insert_twice files name first last =
     ∙ cond_twice (eq_by_cmp (slice_cmp nat_cmp) q name) (Some last) (Some first) (get files q)
     ∙ sym (get-insert nat_list_cmp_total files name last q))
 
-with_more-with_empty : (files : Files) (name bytes : List ℕ) → with_more name bytes (with_empty name files) ≡ insert files name bytes
-with_more-with_empty files name bytes =
-    ap (λ content. insert (insert files name []) name (unwrap_or content [] ++ bytes)) (get-insert_same files name [])
-    ∙ insert_twice files name [] bytes
+with_more-insert : (files : Files) (name before bytes : List ℕ) → with_more name bytes (insert files name before) ≡ insert files name (before ++ bytes)
+with_more-insert files name before bytes =
+    ap (λ content. insert (insert files name before) name (unwrap_or content [] ++ bytes)) (get-insert_same files name before)
+    ∙ insert_twice files name before (before ++ bytes)
 
-stored : (old : Option Files) (name bytes : List ℕ) → option_map (with_more name bytes) (option_map (with_empty name) old) ≡ option_map (λ files. insert files name bytes) old
-stored None name bytes = refl
-stored (Some files) name bytes = ap Some (with_more-with_empty files name bytes)
+grown : (old : Option Files) (name before bytes : List ℕ) → option_map (with_more name bytes) (option_map (λ files. insert files name before) old) ≡ option_map (λ files. insert files name (before ++ bytes)) old
+grown None name before bytes = refl
+grown (Some files) name before bytes = ap Some (with_more-insert files name before bytes)
 
--- a file that was made and then written
-HasFile-from_calls : (old mid new : Option Files) (name bytes : List ℕ) → mid ≡ option_map (with_empty name) old → new ≡ option_map (with_more name bytes) mid → HasFile name bytes old new
-HasFile-from_calls old mid new name bytes made grown = grown ∙ ap (option_map (with_more name bytes)) made ∙ stored old name bytes
+-- ---- a file that is written in pieces
 
-pub HasFile-from_append : (old mid new : Option Files) (name bytes : List ℕ) (r : Result (Unit {0}) StoreFault) → mid ≡ option_map (with_empty name) old → Appends mid name bytes r new → OnOk r (HasFile name bytes old new)
-HasFile-from_append old mid new name bytes (Ok done) made grown = HasFile-from_calls old mid new name bytes made grown
-HasFile-from_append old mid new name bytes (Err fault) made left = tt
+-- the file has so much of the whole, and a piece holds what follows
+pub record IsSoFar (name so_far : List ℕ) (old now : Option Files) (piece : List ℕ) : Type 0 where
+  pub done : List ℕ
+  pub file : HasFile name done old now
+  pub follows : done ++ piece ≡ so_far
 
--- an empty file has the first 0 of any bytes
-empty_part : (old new : Option Files) (name bytes : List ℕ) → new ≡ option_map (with_empty name) old → HasPartOfFile name bytes old new
-empty_part old new name bytes made = inr (0, made)
+-- a file that was made is empty
+pub IsSoFar-made : (old now : Option Files) (name : List ℕ) → Creates old name (Ok tt) now → IsSoFar name [] old now []
+IsSoFar-made old now name made = record { done = []; file = made; follows = refl }
+
+pub IsSoFar-more : (old now : Option Files) (name so_far piece more : List ℕ) → IsSoFar name so_far old now piece → IsSoFar name (so_far ++ more) old now (piece ++ more)
+IsSoFar-more old now name so_far piece more is =
+    record { done = is.done; file = is.file; follows = sym (append_assoc is.done piece more) ∙ ap (λ p. p ++ more) is.follows }
+
+-- the file after the piece was put behind it
+file_after : (old now new : Option Files) (name so_far piece : List ℕ) → (is : IsSoFar name so_far old now piece) (bytes : List ℕ) → new ≡ option_map (with_more name bytes) now → HasFile name (is.done ++ bytes) old new
+file_after old now new name so_far piece is bytes put = put ∙ ap (option_map (with_more name bytes)) is.file ∙ grown old name is.done bytes
+
+pub IsSoFar-written : (old now new : Option Files) (name so_far piece : List ℕ) → IsSoFar name so_far old now piece → Appends now name piece (Ok tt) new → IsSoFar name so_far old new []
+IsSoFar-written old now new name so_far piece is put = record {
+  done = is.done ++ piece;
+  file = file_after old now new name so_far piece is piece put;
+  follows = append-nil (is.done ++ piece) ∙ is.follows;
+}
+
+pub HasFile-written : (old now new : Option Files) (name bytes piece : List ℕ) (r : Result (Unit {0}) StoreFault) → IsSoFar name bytes old now piece → Appends now name piece r new → OnOk r (HasFile name bytes old new)
+HasFile-written old now new name bytes piece (Ok done) is put = subst (λ b. HasFile name b old new) is.follows (file_after old now new name bytes piece is piece put)
+HasFile-written old now new name bytes piece (Err fault) is left = tt
+
+-- a part of what was to be written by now is a part of the whole
+part_of_whole : (done rest so_far more bytes : List ℕ) → done ++ rest ≡ so_far → so_far ++ more ≡ bytes → IsPart done bytes
+part_of_whole done rest so_far more bytes follows whole = (rest ++ more, sym whole ∙ ap (λ s. s ++ more) (sym follows) ∙ append_assoc done rest more)
+
+pub HasPartOfFile-so_far : (old now : Option Files) (name so_far more bytes piece : List ℕ) → IsSoFar name so_far old now piece → so_far ++ more ≡ bytes → HasPartOfFile name bytes old now
+HasPartOfFile-so_far old now name so_far more bytes piece is whole = inr (is.done, part_of_whole is.done piece so_far more bytes is.follows whole, is.file)
 
 pub HasPartOfFile-from_create : (old new : Option Files) (name bytes : List ℕ) (fault : StoreFault) → Creates old name (Err fault) new → HasPartOfFile name bytes old new
-HasPartOfFile-from_create old new name bytes Failed left = ⊎_elim inl (empty_part old new name bytes) left
+HasPartOfFile-from_create old new name bytes Failed left = ⊎_elim inl (λ made. inr ([], (bytes, refl), made)) left
 HasPartOfFile-from_create old new name bytes Memory left = inl left
 
-pub HasPartOfFile-from_append : (old mid new : Option Files) (name bytes : List ℕ) (r : Result (Unit {0}) StoreFault) → mid ≡ option_map (with_empty name) old → Appends mid name bytes r new → OnErr r (HasPartOfFile name bytes old new)
-HasPartOfFile-from_append old mid new name bytes (Ok done) made grown = tt
-HasPartOfFile-from_append old mid new name bytes (Err fault) made left =
-    ⊎_elim (λ same. empty_part old new name bytes (same ∙ made)) (λ grown. inr (grown.0, HasFile-from_calls old mid new name (take grown.0 bytes) made grown.1)) left
+pub HasPartOfFile-from_failed : (old now new : Option Files) (name so_far more bytes piece : List ℕ) (fault : StoreFault) → IsSoFar name so_far old now piece → so_far ++ more ≡ bytes → Appends now name piece (Err fault) new → HasPartOfFile name bytes old new
+HasPartOfFile-from_failed old now new name so_far more bytes piece fault is whole left =
+    ⊎_elim (λ same. rw same (HasPartOfFile-so_far old now name so_far more bytes piece is whole))
+    (λ put. inr (
+      is.done ++ take put.0 piece,
+      part_of_whole (is.done ++ take put.0 piece) (drop put.0 piece) so_far more bytes (append_assoc is.done (take put.0 piece) (drop put.0 piece) ∙ ap (λ p. is.done ++ p) (take-append-drop put.0 piece) ∙ is.follows) whole,
+      file_after old now new name so_far piece is (take put.0 piece) put.1,
+    )) left
+
+pub HasPartOfFile-from_append : (old now new : Option Files) (name bytes piece : List ℕ) (r : Result (Unit {0}) StoreFault) → IsSoFar name bytes old now piece → Appends now name piece r new → OnErr r (HasPartOfFile name bytes old new)
+HasPartOfFile-from_append old now new name bytes piece (Ok done) is put = tt
+HasPartOfFile-from_append old now new name bytes piece (Err fault) is left = HasPartOfFile-from_failed old now new name bytes [] bytes piece fault is (append-nil bytes) left
 
 pub HasPartWritten-none : (written : Option (List ℕ)) (bytes : List ℕ) → HasPartWritten bytes written written
-HasPartWritten-none None bytes = (0, refl)
-HasPartWritten-none (Some old) bytes = (0, ap Some (sym (append-nil old)))
+HasPartWritten-none None bytes = ([], (bytes, refl), refl)
+HasPartWritten-none (Some old) bytes = ([], (bytes, refl), ap Some (sym (append-nil old)))
+
+pub HasPartWritten-from_failed : (old new : Option (List ℕ)) (bytes : List ℕ) (fault : StoreFault) → Puts old bytes (Err fault) new → HasPartWritten bytes old new
+HasPartWritten-from_failed old new bytes fault put = (take put.0 bytes, (drop put.0 bytes, sym (take-append-drop put.0 bytes)), put.1)

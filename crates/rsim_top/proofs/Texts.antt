@@ -1,15 +1,52 @@
 -- The texts of the machine's order and report, as a format writes them.
-use Rattle.std.proofs.Common.{◌≡◌, ℕ, List, ◌++◌, codes, decimal, length, append_assoc, append-nil, arith, refl, sym, ap, ◌∙◌}
+use Rattle.std.proofs.Common.{◌≡◌, ◌+◌, ℕ, zero, suc, Some, slice_get, add-one, List, [], ◌∷◌, ◌++◌, take, drop, codes, decimal, length, append_assoc, append-nil, arith, refl, sym, ap, ◌∙◌}
 use Rattle.std.proofs.lemmas.Fmt.{decimal_digit}
-use Rattle.rsim_top.specs.OrderText.{certificate}
+use Rattle.std.proofs.lemmas.List.{take-append-drop, flat_map_more}
+use Rattle.std.proofs.lemmas.List.Concat.{flat_map-append}
+use Rattle.std.specs.List.{flat_map}
+use Rattle.rsim_base.specs.declared.memory.Access.{Access}
+use Rattle.rsim_base.specs.declared.memory.Model.TheVariants.{Sc}
+use Rattle.rsim_top.specs.OrderText.{heading, line, ending}
 use Rattle.rsim_top.specs.Machine.{order_of, report_of}
 use Rattle.rsim_top.specs.ReportText.{report, end_text}
 use Rattle.rsim_top.specs.declared.arch.End.{End}
 use Rattle.rsim_top.specs.Run.{Ran}
 
-pub order_of-text : (steps : ℕ) → order_of steps ≡ codes "rsim order 1\nmodel sc\nprocessors 1\nend " ++ (decimal steps ++ codes "\n")
-unfolding order_of certificate
-order_of-text steps = rw (decimal_digit 1 (omega arith), append-nil (decimal steps)) refl
+pub heading-text : heading Sc 1 ≡ codes "rsim order 1\nmodel sc\nprocessors 1\n"
+unfolding heading
+heading-text = rw (decimal_digit 1 (omega arith)) refl
+
+pub ending-text : (steps : ℕ) → ending (steps ∷ []) ≡ codes "end " ++ (decimal steps ++ codes "\n")
+unfolding ending
+ending-text steps = rw (append-nil (decimal steps)) refl
+
+-- an order that is written so far, and what follows
+pub order_of-parts : (order : List Access) (steps i : ℕ) → (heading Sc 1 ++ flat_map line (take i order)) ++ (flat_map line (drop i order) ++ ending (steps ∷ [])) ≡ order_of order steps
+unfolding order_of
+order_of-parts order steps i =
+    sym (append_assoc (heading Sc 1 ++ flat_map line (take i order)) (flat_map line (drop i order)) (ending (steps ∷ [])))
+    ∙ ap (λ t. t ++ ending (steps ∷ [])) (append_assoc (heading Sc 1) (flat_map line (take i order)) (flat_map line (drop i order))
+    ∙ ap (λ t. heading Sc 1 ++ t) (sym (flat_map-append line (take i order) (drop i order)) ∙ ap (flat_map line) (take-append-drop i order)))
+
+-- an order of which all lines are written, and its end
+pub order_of-end : (order : List Access) (steps : ℕ) → (heading Sc 1 ++ flat_map line order) ++ ending (steps ∷ []) ≡ order_of order steps
+unfolding order_of
+order_of-end order steps = refl
+
+take_next : {A : Type 0} (xs : List A) (i : ℕ) (x : A) → slice_get xs i ≡ Some x → take (suc i) xs ≡ take i xs ++ x ∷ []
+take_next [] i x at = absurd cc
+take_next (y ∷ xs) zero x at = cc
+take_next (y ∷ xs) (suc i) x at = ap (λ t. y ∷ t) (take_next xs i x at)
+
+-- the lines so far with one more
+pub lines_more : (order : List Access) (i : ℕ) (e : Access) → slice_get order i ≡ Some e → (heading Sc 1 ++ flat_map line (take i order)) ++ line e ≡ heading Sc 1 ++ flat_map line (take (i + 1) order)
+lines_more order i e at = rw add-one (flat_map_more line (heading Sc 1) (take i order) e ∙ ap (λ t. heading Sc 1 ++ flat_map line t) (sym (take_next order i e at)))
+
+-- the pieces of a line, as a format puts them
+pub joined_line : (node index kind count address loaded stored text : List ℕ) →
+    text ≡ node ++ 32 ∷ (index ++ 32 ∷ (kind ++ 32 ∷ (count ++ 32 ∷ (address ++ 32 ∷ ((loaded ++ 32 ∷ stored) ++ 10 ∷ []))))) →
+    text ≡ node ++ 32 ∷ (index ++ 32 ∷ (kind ++ 32 ∷ (count ++ 32 ∷ (address ++ 32 ∷ (loaded ++ 32 ∷ (stored ++ 10 ∷ []))))))
+joined_line node index kind count address loaded stored text e = e ∙ simp append_assoc
 
 -- what stands before the output, and behind it
 abbrev pub head_of : ℕ → End → ℕ → List ℕ

@@ -1,7 +1,9 @@
 -- The answers of `run_command`: what each of them says of the command line, the files and the failures,
 -- and what stands after it.
-use Rattle.std.specs.Prelude.{◌≡◌, ◌⊎◌, ℕ, ◌<◌, ◌≤◌, false, List, length, take, Option, Some, None, Result, Ok, Err, IfSome, IsSomeAnd, option_map}
+use Rattle.std.specs.Prelude.{◌≡◌, ◌⊎◌, ℕ, ◌<◌, ◌≤◌, false, List, [], ◌∷◌, ◌++◌, length, Option, Some, None, Result, Ok, Err, IfSome, IsSomeAnd, option_map}
 use Rattle.std.specs.FinMap.{get, insert}
+use Rattle.rsim_base.specs.declared.memory.Access.{Access}
+use Rattle.rsim_base.specs.declared.memory.Model.TheVariants.{Sc}
 use Rattle.rsim_io.specs.Faults.{Rose}
 use Rattle.rsim_io.specs.Files.{Files}
 use Rattle.rsim_io.specs.Written.{and_then}
@@ -15,7 +17,8 @@ use Rattle.rsim_top.specs.declared.refusal.Refusal.TheVariants.{Words, Read, Big
 use Rattle.rsim_top.specs.declared.command.Reported.{Reported}
 use Rattle.rsim_top.specs.Arch.{is_running}
 use Rattle.rsim_top.specs.Machine.{order_of, report_of}
-use Rattle.rsim_top.specs.Run.{Ran, run}
+use Rattle.rsim_top.specs.Fit.{Fit}
+use Rattle.rsim_top.specs.Run.{Ran}
 use Rattle.rsim_top.specs.Words.{Asked, asked}
 
 -- ---- the outside
@@ -37,9 +40,13 @@ pub record IsUntouched (old new : Outside) : Type 0 where
 abbrev pub HasFile : List ℕ → List ℕ → Option Files → Option Files → Type 0
 HasFile name bytes old new = new ≡ option_map (λ files. insert files name bytes) old
 
+-- some first ones of these bytes
+abbrev pub IsPart : List ℕ → List ℕ → Type 0
+IsPart part bytes = (rest : List ℕ) × (bytes ≡ part ++ rest)
+
 -- the file has some first ones of these bytes or is as before, and every other one is as before
 abbrev pub HasPartOfFile : List ℕ → List ℕ → Option Files → Option Files → Type 0
-HasPartOfFile name bytes old new = (new ≡ old) ⊎ ((part : ℕ) × HasFile name (take part bytes) old new)
+HasPartOfFile name bytes old new = (new ≡ old) ⊎ ((part : List ℕ) × IsPart part bytes × HasFile name part old new)
 
 -- these bytes were written behind the old ones
 abbrev pub HasWritten : List ℕ → Option (List ℕ) → Option (List ℕ) → Type 0
@@ -47,7 +54,7 @@ HasWritten bytes old new = new ≡ option_map (and_then bytes) old
 
 -- some first ones of these bytes were
 abbrev pub HasPartWritten : List ℕ → Option (List ℕ) → Option (List ℕ) → Type 0
-HasPartWritten bytes old new = (part : ℕ) × HasWritten (take part bytes) old new
+HasPartWritten bytes old new = (part : List ℕ) × IsPart part bytes × HasWritten part old new
 
 -- ---- the executable and its run
 
@@ -63,16 +70,18 @@ pub record IsExecutable (files : Option Files) (name file : List ℕ) : Type 0 w
 abbrev pub IsTooLong : Option Files → List ℕ → Type 0
 IsTooLong files name = IfSome files (λ files. IsSomeAnd (get files name) (λ file. longest_exe < length file))
 
--- The run that a command asks for: its executable, that file's image, and so many steps from the start
--- of one processor. They are as many as the bound on the cycles, or the last one ended the processor.
+-- The run that a command asks for: its executable, that file's image, so many steps of one processor, and an
+-- order that fits them under sequential consistency. The steps are as many as the bound on the cycles, or the
+-- last one ended the processor.
 pub record AskedRun (old : Outside) (want : Asked) : Type 0 where
   pub file : List ℕ
   pub executable : IsExecutable old.files want.exe file
   pub image : ImageView
   pub loaded : image_of file ≡ Some image
   pub steps : ℕ
+  pub order : List Access
   pub ran : Ran
-  pub runs : run image 0 1 steps ≡ Some ran
+  pub fits : Fit image Sc (steps ∷ []) order (ran ∷ [])
   pub within : steps ≤ want.cycles
   pub over : (steps ≡ want.cycles) ⊎ (is_running ran.state.end ≡ false)
 
@@ -82,19 +91,19 @@ pub record AskedRun (old : Outside) (want : Asked) : Type 0 where
 pub record Succeeds (old new : Outside) (want : Asked) (reported : Reported) : Type 0 where
   pub made : AskedRun old want
   pub steps : reported ≡ record { cycles = made.steps; retired = made.steps }
-  pub order : HasFile want.order (order_of made.steps) old.files new.files
+  pub order : HasFile want.order (order_of made.order made.steps) old.files new.files
   pub report : HasWritten (report_of made.steps made.ran) old.written new.written
 
 -- the order was not written whole, and nothing was written of the report
 pub record StopsAtOrder (old new : Outside) (want : Asked) : Type 0 where
   pub made : AskedRun old want
-  pub order : HasPartOfFile want.order (order_of made.steps) old.files new.files
+  pub order : HasPartOfFile want.order (order_of made.order made.steps) old.files new.files
   pub report : new.written ≡ old.written
 
 -- the order is whole, and some first part of the report was written
 pub record StopsAtReport (old new : Outside) (want : Asked) : Type 0 where
   pub made : AskedRun old want
-  pub order : HasFile want.order (order_of made.steps) old.files new.files
+  pub order : HasFile want.order (order_of made.order made.steps) old.files new.files
   pub report : HasPartWritten (report_of made.steps made.ran) old.written new.written
 
 -- The words were good: what is answered then.

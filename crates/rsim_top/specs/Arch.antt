@@ -2,15 +2,16 @@
 -- of the instruction set, one instruction at a time (The SPARC Architecture Manual, Version 9).
 -- Registers hold numbers below 2^64, and sums go round there.
 use Rattle.std.specs.Prelude.{ℕ, ◌+◌, ◌-◌, ◌*◌, ◌%◌, ◌^◌, ◌==◌, Bool, true, false, if◌then◌else◌, replicate, slice_index, slice_set, Option, Some, None, bit_or, bit_xor, not, ◌||◌, nat_le}
-use Rattle.elf64_load.specs.Image.{ImageView, fetched}
+use Rattle.rsim_base.specs.declared.memory.Size.TheVariants.{B8}
+use Rattle.elf64_load.specs.Image.{ImageView, fetched, is_readable, is_writable}
 use Rattle.rsim_top.specs.declared.arch.Arch.{Arch}
 use Rattle.rsim_top.specs.declared.arch.End.{End}
 use Rattle.rsim_top.specs.declared.arch.End.TheVariants.{Running, Exit, Trapped, Unbuilt}
 use Rattle.rsim_top.specs.declared.arch.Act.{Act}
-use Rattle.rsim_top.specs.declared.arch.Act.TheVariants.{Nothing, Out, End as Ended}
+use Rattle.rsim_top.specs.declared.arch.Act.TheVariants.{Nothing, Load as Loaded, Store as Stored, Out, End as Ended}
 use Rattle.rsim_top.specs.declared.arch.Spoken.TheVariants.{Byte, Number}
 use Rattle.rsim_top.specs.declared.decode.Instr.{Instr}
-use Rattle.rsim_top.specs.declared.decode.Instr.TheVariants.{Sethi, Compute, Branch, Trap, Unbuilt as NotBuilt}
+use Rattle.rsim_top.specs.declared.decode.Instr.TheVariants.{Sethi, Compute, Branch, Load, Store, Trap, Unbuilt as NotBuilt}
 use Rattle.rsim_top.specs.declared.decode.Function.{Function}
 use Rattle.rsim_top.specs.declared.decode.Function.TheVariants.{Add, Sub, Or, Xor}
 use Rattle.rsim_top.specs.declared.decode.Condition.{Condition}
@@ -107,23 +108,46 @@ past_slot s = record s { pc = (s.npc + 4) % 2 ^ 64; npc = (s.npc + 8) % 2 ^ 64 }
 abbrev pub branched : Bool → Bool → ℕ → Arch → Arch
 branched goes annul target s = if goes then taken target s else (if annul then past_slot s else next s)
 
-abbrev pub executed : Instr → Arch → Stepped
-executed (Sethi d value) s = goes_on Nothing (with_register d value s)
-executed (Compute function d a b) s = goes_on Nothing (with_register d (computed function (register s a) (operand s b)) s)
-executed (Branch condition a annul displacement) s = record {
+-- the address of a load or store
+abbrev pub address : Arch → ℕ → Src2 → ℕ
+address s a b = (register s a + operand s b) % 2 ^ 64
+
+-- an address that is no multiple of 8 is trap 0x34, mem_address_not_aligned; bytes that may not be accessed
+-- are trap 0x30, data_access_exception (7.6)
+abbrev pub at_doubleword : ℕ → Bool → Stepped → Arch → Stepped
+at_doubleword addr allowed accessed s =
+    if not (addr % 8 == 0) then ends (Trapped 0x034 s.pc) s
+    else (if not allowed then ends (Trapped 0x030 s.pc) s else accessed)
+
+-- the value is what a load finds in memory
+abbrev pub loaded : ImageView → ℕ → ℕ → ℕ → Arch → Stepped
+loaded image d addr value s =
+    at_doubleword addr (is_readable image addr 8) (goes_on (Loaded (record { 0 = addr }) B8 value) (with_register d value s)) s
+
+abbrev pub stored : ImageView → ℕ → ℕ → Arch → Stepped
+stored image d addr s =
+    at_doubleword addr (is_writable image addr 8) (goes_on (Stored (record { 0 = addr }) B8 (register s d)) s) s
+
+abbrev pub executed : ImageView → Instr → Arch → ℕ → Stepped
+executed image (Sethi d immediate) s value = goes_on Nothing (with_register d immediate s)
+executed image (Compute function d a b) s value = goes_on Nothing (with_register d (computed function (register s a) (operand s b)) s)
+executed image (Branch condition a annul displacement) s value = record {
   state = branched (holds condition (register s a)) annul ((s.pc + displacement) % 2 ^ 64) s;
   act = Nothing;
 }
-executed (Trap a b) s = service ((register s a + operand s b) % 128) s
-executed NotBuilt s = ends (Unbuilt s.pc) s
+executed image (Load d a b) s value = loaded image d (address s a b) value s
+executed image (Store d a b) s value = stored image d (address s a b) s
+executed image (Trap a b) s value = service ((register s a + operand s b) % 128) s
+executed image NotBuilt s value = ends (Unbuilt s.pc) s
 
--- the word at pc runs; where there is none, that is trap 8, instruction access exception (7.6)
-abbrev pub of_word : Option ℕ → Arch → Stepped
-of_word None s = ends (Trapped 0x008 s.pc) s
-of_word (Some word) s = executed (instr word) s
+-- the word at pc runs; where there is none, that is trap 8, instruction_access_exception (7.6)
+abbrev pub of_word : ImageView → Option ℕ → Arch → ℕ → Stepped
+of_word image None s value = ends (Trapped 0x008 s.pc) s
+of_word image (Some word) s value = executed image (instr word) s value
 
-abbrev pub step : ImageView → Arch → Stepped
-step image s = of_word (fetched image s.pc) s
+-- A step from a state. The value is used by a load alone.
+abbrev pub step : ImageView → Arch → ℕ → Stepped
+step image s value = of_word image (fetched image s.pc) s value
 
 abbrev pub is_running : End → Bool
 is_running Running = true

@@ -3,7 +3,7 @@
 -- and the instruction that such a word gives. A word that no row fits is of a form not built yet.
 use Rattle.std.specs.Prelude.{◌≡◌, ◌⊎◌, ℕ, ◌+◌, ◌-◌, ◌*◌, ◌/◌, ◌%◌, ◌^◌, ◌<◌, ◌==◌, Bool, ◌&&◌, nat_lt, if◌then◌else◌, List, [], ◌∷◌, Option, Some, None}
 use Rattle.rsim_top.specs.declared.decode.Instr.{Instr}
-use Rattle.rsim_top.specs.declared.decode.Instr.TheVariants.{Sethi, Compute, Branch, Trap, Unbuilt}
+use Rattle.rsim_top.specs.declared.decode.Instr.TheVariants.{Sethi, Compute, Branch, Load, Store, Trap, Unbuilt}
 use Rattle.rsim_top.specs.declared.decode.Function.{Function}
 use Rattle.rsim_top.specs.declared.decode.Function.TheVariants.{Add, Sub, Or, Xor}
 use Rattle.rsim_top.specs.declared.decode.Condition.{Condition}
@@ -87,20 +87,33 @@ compute code function = record {
   gives = λ word. Compute function (rd word) (rs1 word) (operand2 word);
 }
 
--- Tcc (A.59), always taken
+-- LDX (A.27) and STX (A.54): the register, and the operands that add up to the address
+abbrev pub ldx : Form
+ldx = record {
+  fits = λ word. (op word == 3) && (op3 word == 0x0B);
+  gives = λ word. Load (rd word) (rs1 word) (operand2 word);
+}
+
+abbrev pub stx : Form
+stx = record {
+  fits = λ word. (op word == 3) && (op3 word == 0x0E);
+  gives = λ word. Store (rd word) (rs1 word) (operand2 word);
+}
+
+-- Tcc (A.61), always taken
 abbrev pub trap_always : Form
 trap_always = record {
   fits = λ word. (op word == 2) && (op3 word == 0x3A) && (cond word == 8) && (cc word % 2 == 0);
   gives = λ word. Trap (rs1 word) (operand2 word);
 }
 
--- ADD (A.2), OR and XOR (A.31), SUB (A.57)
+-- ADD (A.2), OR and XOR (A.31), SUB (A.56)
 abbrev pub forms : List Form
 forms =
     sethi
     ∷ branch 1 Zero ∷ branch 2 LessOrZero ∷ branch 3 Less ∷ branch 5 NotZero ∷ branch 6 Greater ∷ branch 7 GreaterOrZero
     ∷ compute 0x00 Add ∷ compute 0x02 Or ∷ compute 0x03 Xor ∷ compute 0x04 Sub
-    ∷ trap_always ∷ []
+    ∷ ldx ∷ stx ∷ trap_always ∷ []
 
 -- the instruction of the first form that fits
 abbrev pub first_of : List Form → ℕ → Instr
@@ -118,6 +131,8 @@ NamesRegister (Imm value) = Unit {0}
 abbrev pub NamesRegisters : Instr → Type 0
 NamesRegisters (Sethi d value) = d < 32
 NamesRegisters (Compute function d a b) = (d < 32) × (a < 32) × NamesRegister b
+NamesRegisters (Load d a b) = (d < 32) × (a < 32) × NamesRegister b
+NamesRegisters (Store d a b) = (d < 32) × (a < 32) × NamesRegister b
 NamesRegisters (Branch condition a annul displacement) = a < 32
 NamesRegisters (Trap a b) = (a < 32) × NamesRegister b
 NamesRegisters Unbuilt = Unit {0}

@@ -1,14 +1,15 @@
--- The machine so far: one processor that makes one step in each cycle, and no access to memory. What it
--- writes after so many steps.
+-- The machine so far: one processor that makes one step in each cycle, its accesses in program order. What
+-- it writes after so many steps.
 use Rattle.std.specs.Prelude.{ℕ, List, [], ◌∷◌, replicate}
+use Rattle.rsim_base.specs.declared.memory.Access.{Access}
 use Rattle.rsim_base.specs.declared.memory.Model.TheVariants.{Sc}
 use Rattle.rsim_top.specs.OrderText.{certificate}
 use Rattle.rsim_top.specs.ReportText.{report}
 use Rattle.rsim_top.specs.Run.{Ran}
 
 -- its order, under sequential consistency
-unfoldable pub order_of : ℕ → List ℕ
-order_of steps = certificate Sc 1 (steps ∷ [])
+unfoldable pub order_of : List Access → ℕ → List ℕ
+order_of order steps = certificate Sc 1 order (steps ∷ [])
 
 -- its report: no store waits, and nothing is counted
 unfoldable pub report_of : ℕ → Ran → List ℕ

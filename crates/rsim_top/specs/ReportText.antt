@@ -1,13 +1,9 @@
 -- The text of a report.
-use Rattle.std.specs.Prelude.{ℕ, ◌+◌, ◌-◌, false, List, [], ◌∷◌, ◌++◌, length, replicate, codes, decimal}
-use Rattle.std.specs.Fmt.{digits}
+use Rattle.std.specs.Prelude.{ℕ, ◌+◌, List, [], ◌∷◌, ◌++◌, length, codes, decimal}
 use Rattle.std.specs.List.{concat}
+use Rattle.rsim_top.specs.Hex.{hex}
 use Rattle.rsim_top.specs.declared.arch.End.{End}
 use Rattle.rsim_top.specs.declared.arch.End.TheVariants.{Running, Exit, Trapped, Unbuilt}
-
--- lower-case hexadecimal digits, with zeros before them up to this width
-abbrev pub hex : ℕ → ℕ → List ℕ
-hex width n = replicate (width - length (digits 16 false n)) 48 ++ digits 16 false n
 
 abbrev pub end_text : End → List ℕ
 end_text Running = codes "running"

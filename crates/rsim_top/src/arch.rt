@@ -3,8 +3,9 @@ ghost use Rattle.std.specs.Prelude.{◌≡◌, ◌<◌, ◌≤◌, IsTrue};
 ghost use Rattle.rsim_top.specs.Instr.{NamesRegister, NamesRegisters};
 
 use crate::decode::{Condition, Function, Instr, Src2, decode};
+use crate::memory::Memory;
 use elf64_load::Image;
-use rsim_base::Node;
+use rsim_base::{Addr, Node, Size};
 
 // Where stacks begin, how long each is, and how far below its end %o6 points at the start: the
 // stack bias of 2,047 and a frame of 256 bytes (SPARC V9, H.1.3).
@@ -47,6 +48,11 @@ pub enum Spoken {
 #[derive(Clone, Copy, Debug, PartialEq, Eq)]
 pub enum Act {
     Nothing,
+    /// It loads this value from memory.
+    Load(Addr, Size, u64),
+    /// It stores this value to memory.
+    Store(Addr, Size, u64),
+    /// It puts something into the output.
     Out(Spoken),
     /// It ends the processor.
     End,
@@ -109,7 +115,8 @@ impl Condition {
 }
 
 impl Arch {
-    ghost use Rattle.rsim_top.specs.Arch.{register, with_register, operand, boot, service, executed, step, next, branched, Stepped};
+    ghost use Rattle.rsim_top.specs.Arch.{register, with_register, operand, address, loaded, stored, boot, service, executed, step, next, branched, Stepped};
+    ghost use Rattle.rsim_top.specs.Memory.{value_of, IsAccess, LoadsNothing};
 
     /// The state in which processor `p` of so many starts.
     pub fn boot(image: &Image, p: Node, processors: u8) -> Arch
@@ -159,24 +166,27 @@ impl Arch {
         }
     }
 
-    /// Runs the instruction at pc. A step that ends the processor changes `end` alone.
-    pub fn step(&mut self, image: &Image) -> Act
-        ensures { step image.now self.old ≡ record { state = self.new; act = result } }
+    /// Runs the instruction at pc, on memory as it stands. A step that ends the processor changes `end`
+    /// alone.
+    pub fn step(&mut self, image: &Image, memory: &Memory) -> Act
+        ensures step { step image.now self.old (value_of result) ≡ record { state = self.new; act = result } }
+        ensures read { IsAccess image.now memory.now result }
     {
         match image.fetch(self.pc) {
-            Some(word) => self.execute(decode(word)),
+            Some(word) => self.execute(decode(word), image, memory),
             None => self.stop(End::Trapped(0x008, self.pc)),
         }
     }
 
-    fn execute(&mut self, instr: Instr) -> Act
+    fn execute(&mut self, instr: Instr, image: &Image, memory: &Memory) -> Act
         requires { NamesRegisters instr }
-        ensures { executed instr self.old ≡ record { state = self.new; act = result } }
+        ensures step { executed image.now instr self.old (value_of result) ≡ record { state = self.new; act = result } }
+        ensures read { IsAccess image.now memory.now result }
     {
         match instr {
             Instr::Sethi { rd, value } => {
                 self.set_register(rd, value);
-                self.go_on()
+                self.go_on(Act::Nothing)
             }
             Instr::Compute {
                 function,
@@ -186,7 +196,7 @@ impl Arch {
             } => {
                 let value = function.of(self.register(rs1), self.operand(src2));
                 self.set_register(rd, value);
-                self.go_on()
+                self.go_on(Act::Nothing)
             }
             Instr::Branch {
                 condition,
@@ -199,6 +209,14 @@ impl Arch {
                 self.branch(goes, annul, target);
                 Act::Nothing
             }
+            Instr::Load { rd, rs1, src2 } => {
+                let address = self.address(rs1, src2);
+                self.load(rd, address, image, memory)
+            }
+            Instr::Store { rd, rs1, src2 } => {
+                let address = self.address(rs1, src2);
+                self.store(rd, address, image)
+            }
             Instr::Trap { rs1, src2 } => {
                 let number = self.register(rs1).wrapping_add(self.operand(src2)) % 128;
                 self.serve(number as u16)
@@ -207,16 +225,57 @@ impl Arch {
         }
     }
 
+    // The address of a load or store.
+    fn address(&self, rs1: u8, src2: Src2) -> u64
+        requires register { rs1 < 32 }
+        requires operand { NamesRegister src2 }
+        ensures { result ≡ address self.now rs1 src2 }
+    {
+        self.register(rs1).wrapping_add(self.operand(src2))
+    }
+
+    fn load(&mut self, rd: u8, address: u64, image: &Image, memory: &Memory) -> Act
+        requires { rd < 32 }
+        ensures step { loaded image.now rd address (value_of result) self.old ≡ record { state = self.new; act = result } }
+        ensures read { IsAccess image.now memory.now result }
+    {
+        if address % 8 != 0 {
+            return self.stop(End::Trapped(0x034, self.pc));
+        }
+        if !image.may_read(Addr(address), Size::B8) {
+            return self.stop(End::Trapped(0x030, self.pc));
+        }
+        let value = memory.read(image, address);
+        self.set_register(rd, value);
+        self.go_on(Act::Load(Addr(address), Size::B8, value))
+    }
+
+    fn store(&mut self, rd: u8, address: u64, image: &Image) -> Act
+        requires { rd < 32 }
+        ensures step { stored image.now rd address self.old ≡ record { state = self.new; act = result } }
+        ensures quiet { LoadsNothing result }
+    {
+        if address % 8 != 0 {
+            return self.stop(End::Trapped(0x034, self.pc));
+        }
+        if !image.may_write(Addr(address), Size::B8) {
+            return self.stop(End::Trapped(0x030, self.pc));
+        }
+        let value = self.register(rd);
+        self.go_on(Act::Store(Addr(address), Size::B8, value))
+    }
+
     // A trap instruction of this number: a service, or a trap that ends the processor.
     fn serve(&mut self, number: u16) -> Act
         requires { number < 128 }
-        ensures { service number self.old ≡ record { state = self.new; act = result } }
+        ensures step { service number self.old ≡ record { state = self.new; act = result } }
+        ensures quiet { LoadsNothing result }
     {
         let argument = self.register(O0);
         match number {
             16 => self.stop(End::Exit(argument)),
-            17 => self.speak(Spoken::Byte((argument % 256) as u8)),
-            18 => self.speak(Spoken::Number(argument)),
+            17 => self.go_on(Act::Out(Spoken::Byte((argument % 256) as u8))),
+            18 => self.go_on(Act::Out(Spoken::Number(argument))),
             _ => self.stop(End::Trapped(0x100 + number, self.pc)),
         }
     }
@@ -244,20 +303,13 @@ impl Arch {
         }
     }
 
-    fn go_on(&mut self) -> Act
+    // To the next instruction, with this done beside.
+    fn go_on(&mut self, act: Act) -> Act
         ensures state { self.new ≡ next self.old }
-        ensures act { result ≡ Act.Nothing }
+        ensures act { result ≡ act }
     {
         self.advance();
-        Act::Nothing
-    }
-
-    fn speak(&mut self, spoken: Spoken) -> Act
-        ensures state { self.new ≡ next self.old }
-        ensures act { result ≡ Act.Out spoken }
-    {
-        self.advance();
-        Act::Out(spoken)
+        act
     }
 
     fn stop(&mut self, end: End) -> Act

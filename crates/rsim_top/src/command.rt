@@ -7,7 +7,7 @@ ghost use Rattle.rsim_top.specs.Parts.{FailsToFetch, HasRunFile, FailsToRun, Fai
 ghost use Rattle.rsim_top.specs.Processor.{ran_of};
 ghost use Rattle.rsim_top.specs.Refusals.{write_refusal_of};
 
-use crate::order_text::order_text;
+use crate::order_file::store_order;
 use crate::processor::Processor;
 use crate::refusal::{File, Refusal};
 use crate::report_text::report_text;
@@ -73,7 +73,7 @@ fn run_words<S: Shelf, K: Sink>(
     };
     let file = fetch_executable(alloc, command.exe, shelf)?;
     let processor = run_file(alloc, &file, command.cycles)?;
-    write_order(alloc, command.order, processor.retired, shelf)?;
+    write_order(alloc, command.order, &processor, shelf)?;
     write_report(alloc, &processor, out)?;
     Ok(Reported {
         cycles: processor.retired,
@@ -113,35 +113,22 @@ fn run_file(alloc: Global, file: &[u8], cycles: u32) -> Result<Processor, Refusa
     }
 }
 
-// Writes the order of a run that made no access.
+// Writes the order of a run.
 fn write_order<S: Shelf>(
     alloc: Global,
     name: &str,
-    retired: u32,
+    processor: &Processor,
     shelf: &mut S,
 ) -> Result<(), Refusal>
-    ensures written { OnOk result (HasFile name.now (order_of retired) (S.holds shelf.old) (S.holds shelf.new)) }
-    ensures part { OnErr result (HasPartOfFile name.now (order_of retired) (S.holds shelf.old) (S.holds shelf.new)) }
+    ensures written { OnOk result (HasFile name.now (order_of processor.now.order.items processor.now.retired) (S.holds shelf.old) (S.holds shelf.new)) }
+    ensures part { OnErr result (HasPartOfFile name.now (order_of processor.now.order.items processor.now.retired) (S.holds shelf.old) (S.holds shelf.new)) }
     ensures refused { IfErr result (FailsToOrder (S.faults shelf.old) (S.faults shelf.new)) }
     ensures faults { S.faults shelf.old ≤ S.faults shelf.new }
 {
-    let Ok(text) = order_text(alloc, retired) else {
-        return Err(Refusal::Memory);
-    };
-    match store(name, text.as_bytes(), shelf) {
+    match store_order(alloc, name, &processor.order, processor.retired, shelf) {
         Ok(()) => Ok(()),
         Err(fault) => Err(write_refusal(File::Order, fault)),
     }
-}
-
-// Makes the file and writes the bytes to it.
-fn store<S: Shelf>(name: &str, bytes: &[u8], shelf: &mut S) -> Result<(), StoreFault>
-    ensures stored { OnOk result (HasFile name.now bytes.now (S.holds shelf.old) (S.holds shelf.new)) }
-    ensures part { OnErr result (HasPartOfFile name.now bytes.now (S.holds shelf.old) (S.holds shelf.new)) }
-    ensures cause { HasCause (IsErrOf result StoreFault.Failed) (S.faults shelf.old) (S.faults shelf.new) }
-{
-    shelf.create(name)?;
-    shelf.append(name, bytes)
 }
 
 // Writes the report of a run.

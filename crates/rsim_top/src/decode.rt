@@ -39,7 +39,7 @@ pub enum Instr {
         rd: u8,
         value: u64,
     },
-    /// ADD (A.2), SUB (A.57), OR and XOR (A.31).
+    /// ADD (A.2), SUB (A.56), OR and XOR (A.31).
     Compute {
         function: Function,
         rd: u8,
@@ -53,7 +53,19 @@ pub enum Instr {
         annul: bool,
         displacement: u64,
     },
-    /// Tcc (A.59) that is always taken. Its operands add up to its number.
+    /// LDX (A.27): the register, and the operands that add up to the address.
+    Load {
+        rd: u8,
+        rs1: u8,
+        src2: Src2,
+    },
+    /// STX (A.54), likewise.
+    Store {
+        rd: u8,
+        rs1: u8,
+        src2: Src2,
+    },
+    /// Tcc (A.61) that is always taken. Its operands add up to its number.
     Trap {
         rs1: u8,
         src2: Src2,
@@ -70,6 +82,7 @@ pub fn decode(word: u32) -> Instr
     match word >> 30 {
         0 => decode_branch_or_sethi(word),
         2 => decode_arithmetic(word),
+        3 => decode_access(word),
         _ => Instr::Unbuilt,
     }
 }
@@ -139,6 +152,20 @@ fn decode_arithmetic(word: u32) -> Instr
             rs1: rs1(word),
             src2: operand2(word),
         },
+        _ => Instr::Unbuilt,
+    }
+}
+
+// The instruction of a word with op 3.
+fn decode_access(word: u32) -> Instr
+    requires { op word ≡ 3 }
+    ensures table { result ≡ instr word }
+    ensures registers { NamesRegisters result }
+{
+    let (rd, rs1, src2) = (rd(word), rs1(word), operand2(word));
+    match (word >> 19) & 0x3F {
+        0x0B => Instr::Load { rd, rs1, src2 },
+        0x0E => Instr::Store { rd, rs1, src2 },
         _ => Instr::Unbuilt,
     }
 }

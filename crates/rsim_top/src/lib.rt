@@ -4,6 +4,8 @@
 mod arch;
 mod command;
 mod decode;
+mod memory;
+mod order_file;
 mod order_text;
 mod processor;
 mod refusal;

@@ -31,20 +31,16 @@ impl fmt::Display for End {
 pub fn report_text(alloc: Global, processor: &Processor) -> Result<Vec<u8>, NoMemory>
     ensures { IfOk result (λ text. text.items ≡ report_of processor.now.retired (ran_of processor.now)) }
 {
-    let Processor {
-        arch,
-        retired,
-        output,
-    } = processor;
-    let end = arch.end;
-    let length = output.len();
+    let retired = processor.retired;
+    let end = processor.arch.end;
+    let length = processor.output.len();
     let Ok(head) = format!(in alloc;
         "rsim report 1\ncycles {retired}\nprocessor 0 retired {retired} {end}\noutput 0 {length}\n"
     ) else {
         return Err(NoMemory);
     };
     let mut text = head.into_bytes();
-    push(&mut text, output)?;
+    push(&mut text, &processor.output)?;
     push(&mut text, NO_COUNTS.as_bytes())?;
     Ok(text)
 }

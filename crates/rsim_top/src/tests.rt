@@ -94,7 +94,7 @@ fn a_program_prints_a_number_and_exits(rt: HostRuntime) -> Result<(), Fail> {
     Ok(())
 }
 
-// Whether a program retires so many steps in as many cycles and ends so, with this output.
+// Whether a program without accesses retires so many steps in as many cycles and ends so, with this output.
 fn ends_as(
     alloc: Global,
     code: &[u32],
@@ -102,6 +102,19 @@ fn ends_as(
     steps: u32,
     line: &str,
     output: &str,
+) -> Result<bool, Fail> {
+    runs_as(alloc, code, cycles, steps, line, output, "")
+}
+
+// The same of a program with these lines of accesses.
+fn runs_as(
+    alloc: Global,
+    code: &[u32],
+    cycles: &str,
+    steps: u32,
+    line: &str,
+    output: &str,
+    accesses: &str,
 ) -> Result<bool, Fail> {
     let mut shelf = shelf_with(alloc, &executable(alloc, code)?, &[])?;
     let mut out = sink(alloc, &[])?;
@@ -111,7 +124,7 @@ fn ends_as(
     let report = format!(in alloc;
         "rsim report 1\ncycles {steps}\nprocessor 0 retired {steps} {line}\noutput 0 {length}\n{output}\n{COUNTS}"
     )?;
-    let order = format!(in alloc; "rsim order 1\nmodel sc\nprocessors 1\nend {steps}\n")?;
+    let order = format!(in alloc; "rsim order 1\nmodel sc\nprocessors 1\n{accesses}end {steps}\n")?;
     Ok(out.bytes() == report.as_bytes() && holds(&shelf, "order", order.as_bytes()))
 }
 
@@ -234,6 +247,133 @@ fn branches_run_or_annul_their_slots(rt: HostRuntime) -> Result<(), Fail> {
         (&[0x00C80002], 1, "unbuilt 0000000000100000"),
         (&[0x08C80002], 1, "unbuilt 0000000000100000"),
         (&[0x12C80002], 1, "unbuilt 0000000000100000"),
+    ];
+    for (code, steps, line) in cases {
+        assert!(rt; ends_as(alloc, code, "99", steps, line, "")?, "{code:?}");
+    }
+    Ok(())
+}
+
+#[test]
+fn a_program_stores_and_loads(rt: HostRuntime) -> Result<(), Fail> {
+    let alloc = rt.alloc();
+    let code = [
+        0x9010202A, 0xD073A7FF, 0xD25BA7FF, 0x90024008, 0x91D02012, 0x91D02010,
+    ];
+    let accesses =
+        "0 0 S 8 000000007f00ff00 - 000000000000002a\n0 1 L 8 000000007f00ff00 000000000000002a -\n";
+    assert!(rt; runs_as(alloc, &code, "10000", 6, "exit 84", "84\n", accesses)?);
+    // stopped between the two
+    let accesses = "0 0 S 8 000000007f00ff00 - 000000000000002a\n";
+    assert!(rt; runs_as(alloc, &code, "2", 2, "running", "", accesses)?);
+    Ok(())
+}
+
+#[test]
+fn loads_and_stores_reach_what_is_mapped(rt: HostRuntime) -> Result<(), Fail> {
+    let alloc = rt.alloc();
+    let cases: [(&[u32], u32, &str, &str); 9] = [
+        // the last doubleword of the first stack, stored and loaded
+        (
+            &[0x90102007, 0xD073A8F7, 0xD05BA8F7, 0x91D02010],
+            4,
+            "exit 7",
+            "0 0 S 8 000000007f00fff8 - 0000000000000007\n0 1 L 8 000000007f00fff8 0000000000000007 -\n",
+        ),
+        // the first doubleword of the first stack
+        (
+            &[0x151FC000, 0xD05AA000, 0x91D02010],
+            3,
+            "exit 0",
+            "0 0 L 8 000000007f000000 0000000000000000 -\n",
+        ),
+        // the last doubleword of the last stack, and then past it
+        (
+            &[0x151FD000, 0xD05ABFF8, 0xD05AA000],
+            3,
+            "trap 030 0000000000100008",
+            "0 0 L 8 000000007f3ffff8 0000000000000000 -\n",
+        ),
+        // the text, from its first byte: SETHI and the load itself
+        (
+            &[0x17000400, 0xD05AE000, 0x91D02010],
+            3,
+            "exit 1657329064414470144",
+            "0 0 L 8 0000000000100000 17000400d05ae000 -\n",
+        ),
+        // the last doubleword of a text of 16 bytes
+        (
+            &[0x17000400, 0xD05AE008, 0x91D02010, 0x01000000],
+            3,
+            "exit 10506933183763709952",
+            "0 0 L 8 0000000000100008 91d0201001000000 -\n",
+        ),
+        // of two stores to a doubleword the later one is loaded, and one elsewhere does not matter
+        (
+            &[
+                0x151FC000, 0x90102001, 0xD072A008, 0x90103FFE, 0xD072A008, 0xC072A010, 0xD05AA008,
+                0x91D02010,
+            ],
+            8,
+            "exit 18446744073709551614",
+            "0 0 S 8 000000007f000008 - 0000000000000001\n0 1 S 8 000000007f000008 - fffffffffffffffe\n0 2 S 8 000000007f000010 - 0000000000000000\n0 3 L 8 000000007f000008 fffffffffffffffe -\n",
+        ),
+        // a load into register 0 is an access, and register 0 reads 0 behind it
+        (
+            &[0x90102005, 0xD073A7FF, 0xC05BA7FF, 0x90100000, 0x91D02010],
+            5,
+            "exit 0",
+            "0 0 S 8 000000007f00ff00 - 0000000000000005\n0 1 L 8 000000007f00ff00 0000000000000005 -\n",
+        ),
+        // an address of two registers
+        (
+            &[0x151FC000, 0xD2728008, 0xD05A8008, 0x91D02010],
+            4,
+            "exit 1",
+            "0 0 S 8 000000007f000000 - 0000000000000001\n0 1 L 8 000000007f000000 0000000000000001 -\n",
+        ),
+        // what is stored beside the image's bytes leaves them as they are
+        (
+            &[0x17000400, 0xD073A7FF, 0xD05AE000, 0x91D02010],
+            4,
+            "exit 1657329064416094207",
+            "0 0 S 8 000000007f00ff00 - 0000000000000000\n0 1 L 8 0000000000100000 17000400d073a7ff -\n",
+        ),
+    ];
+    for (code, steps, line, accesses) in cases {
+        assert!(rt;
+            runs_as(alloc, code, "99", steps, line, "", accesses)?,
+            "{code:?}"
+        );
+    }
+    Ok(())
+}
+
+#[test]
+fn loads_and_stores_trap_and_make_no_access(rt: HostRuntime) -> Result<(), Fail> {
+    let alloc = rt.alloc();
+    let cases: [(&[u32], u32, &str); 10] = [
+        // no multiple of 8, where nothing is mapped: the alignment is looked at first
+        (&[0xD0582004], 1, "trap 034 0000000000100000"),
+        (&[0xD0702004], 1, "trap 034 0000000000100000"),
+        // no multiple of 8, in a stack
+        (&[0xD05BA7FE], 1, "trap 034 0000000000100000"),
+        // nothing is mapped
+        (&[0xD0582008], 1, "trap 030 0000000000100000"),
+        (&[0xD0702008], 1, "trap 030 0000000000100000"),
+        // at the end of all addresses
+        (&[0xD0583FF8], 1, "trap 030 0000000000100000"),
+        // right below the first stack
+        (&[0x151FC000, 0xD05ABFF8], 2, "trap 030 0000000000100004"),
+        (&[0x151FC000, 0xD072BFF8], 2, "trap 030 0000000000100004"),
+        // a store into the text
+        (&[0x17000400, 0xD072E000], 2, "trap 030 0000000000100004"),
+        // the last four bytes of the text, and four behind it
+        (
+            &[0x17000400, 0xD05AE008, 0x91D02010],
+            2,
+            "trap 030 0000000000100004",
+        ),
     ];
     for (code, steps, line) in cases {
         assert!(rt; ends_as(alloc, code, "99", steps, line, "")?, "{code:?}");
@@ -376,6 +516,40 @@ fn failures_of_the_outside_are_told_and_leave_a_prefix(rt: HostRuntime) -> Resul
         assert!(rt; out.bytes().is_empty(), "{refusal}");
         assert!(rt; holds(&shelf, "exe", &file), "{refusal}");
     }
+    Ok(())
+}
+
+#[test]
+fn an_order_in_pieces_is_left_in_part(rt: HostRuntime) -> Result<(), Fail> {
+    let alloc = rt.alloc();
+    // 4,000 times round a loop with a store: some 190,000 bytes of lines
+    let file = executable(alloc, &[0x151FC000, 0xD272A000, 0x02F83FFF, 0x01000000])?;
+    let words = words(alloc, &["exe", "12001", "order"])?;
+    let mut whole = shelf_with(alloc, &file, &[])?;
+    let mut out = sink(alloc, &[])?;
+    let answer = run_command(alloc, &words, &mut whole, &mut out);
+    assert!(rt; answer.is_ok());
+    let order = whole.file("order").unwrap_or_default();
+    let first =
+        b"rsim order 1\nmodel sc\nprocessors 1\n0 0 S 8 000000007f000000 - 0000000000000001\n";
+    let last = b"\n0 3999 S 8 000000007f000000 - 0000000000000001\nend 12001\n";
+    assert!(rt; order.starts_with(first) && order.ends_with(last));
+    let mut left = 0;
+    for call in [2, 3, 4] {
+        let mut shelf = shelf_with(alloc, &file, &[call])?;
+        let mut out = sink(alloc, &[])?;
+        let answer = run_command(alloc, &words, &mut shelf, &mut out);
+        assert!(rt; answer == Err(Refusal::Write(File::Order)), "call {call}");
+        let part = shelf.file("order").unwrap_or_default();
+        assert!(rt; order.starts_with(part), "call {call}");
+        assert!(rt;
+            left <= part.len() && part.len() < order.len(),
+            "call {call}"
+        );
+        assert!(rt; out.bytes().is_empty(), "call {call}");
+        left = part.len();
+    }
+    assert!(rt; left > 65_536);
     Ok(())
 }
 

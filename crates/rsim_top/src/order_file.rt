@@ -1,0 +1,49 @@
+// The file of an order.
+ghost use Rattle.std.specs.Prelude.{OnOk, OnErr, IsErrOf};
+ghost use Rattle.rsim_io.specs.Faults.{HasCause};
+ghost use Rattle.rsim_top.specs.Answers.{HasFile, HasPartOfFile};
+ghost use Rattle.rsim_top.specs.Machine.{order_of};
+
+use crate::order_text::{push_ending, push_heading, push_line};
+use rsim_base::Access;
+use rsim_io::{Shelf, StoreFault};
+use std::alloc::Global;
+
+// A piece of at least so many bytes is written before the next line is made.
+const PIECE: usize = 65_536;
+
+/// Makes the file of this name and writes the order of one processor to it, in pieces.
+///
+/// # Errors
+/// What the shelf answers, and `Memory` where a line finds no room. The file then has some first part of
+/// the order.
+pub fn store_order<S: Shelf>(
+    alloc: Global,
+    name: &str,
+    order: &[Access],
+    retired: u32,
+    shelf: &mut S,
+) -> Result<(), StoreFault>
+    ensures stored { OnOk result (HasFile name.now (order_of order.now retired) (S.holds shelf.old) (S.holds shelf.new)) }
+    ensures part { OnErr result (HasPartOfFile name.now (order_of order.now retired) (S.holds shelf.old) (S.holds shelf.new)) }
+    ensures cause { HasCause (IsErrOf result StoreFault.Failed) (S.faults shelf.old) (S.faults shelf.new) }
+{
+    shelf.create(name)?;
+    let mut piece = String::new(alloc);
+    let Ok(()) = push_heading(&mut piece) else {
+        return Err(StoreFault::Memory);
+    };
+    for access in order {
+        let Ok(()) = push_line(alloc, &mut piece, access) else {
+            return Err(StoreFault::Memory);
+        };
+        if piece.len() >= PIECE {
+            shelf.append(name, piece.as_bytes())?;
+            piece.clear();
+        }
+    }
+    let Ok(()) = push_ending(alloc, &mut piece, retired) else {
+        return Err(StoreFault::Memory);
+    };
+    shelf.append(name, piece.as_bytes())
+}
