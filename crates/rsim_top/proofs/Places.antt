@@ -1,5 +1,6 @@
 -- Places of a list that grew by one at its end.
-use Rattle.std.proofs.Common.{◌≡◌, ◌⊎◌, ℕ, zero, suc, List, [], ◌∷◌, ◌++◌, length, map, None, Some, slice_get, refl, ap, inl, inr, ⊎_elim}
+use Rattle.std.proofs.Common.{◌≡◌, ◌⊎◌, ℕ, zero, suc, List, [], ◌∷◌, ◌++◌, length, map, None, Some, slice_get, refl, ap, inl, inr, ⊎_elim, option_map, ◌∙◌}
+use Rattle.std.proofs.lemmas.Option.{slice_get-map}
 
 pub Some-injective : {A : Type 0} {x y : A} → Some x ≡ Some y → x ≡ y
 Some-injective e = cc
@@ -22,9 +23,7 @@ slice_get_more (z ∷ xs) y (suc i) x e = ⊎_elim inl (λ last. inr (ap suc las
 
 -- the image of what is at a place
 pub slice_get_mapped : {A B : Type 0} (f : A → B) (xs : List A) (i : ℕ) (x : A) → slice_get xs i ≡ Some x → slice_get (map f xs) i ≡ Some (f x)
-slice_get_mapped f [] i x e = absurd cc
-slice_get_mapped f (y ∷ xs) zero x e = cc
-slice_get_mapped f (y ∷ xs) (suc i) x e = slice_get_mapped f xs i x e
+slice_get_mapped f xs i x e = slice_get-map f xs i ∙ ap (option_map f) e
 
 -- what is at a place of the images is one
 pub slice_get_unmapped : {A B : Type 0} (f : A → B) (xs : List A) (i : ℕ) (y : B) → slice_get (map f xs) i ≡ Some y → (x : A) × (slice_get xs i ≡ Some x) × (y ≡ f x)

@@ -1,5 +1,5 @@
 -- Which store a load reads from, by the rule for loads under total store order (The SPARC Architecture
--- Manual, Version 9, D.4.4), and whether an order explains the values of its loads.
+-- Manual, Version 9, appendix D), and whether an order explains the values of its loads.
 use Rattle.std.specs.Prelude.{◌≡◌, ◌≢◌, ◌⊎◌, ℕ, ◌<◌, ◌≤◌, true, List, Some, slice_get}
 use Rattle.rsim_base.specs.Bytes.{count_of, gap_of, byte_of, IsByteOf}
 use Rattle.rsim_base.specs.declared.memory.Access.{Access}

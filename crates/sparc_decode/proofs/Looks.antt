@@ -2,6 +2,7 @@
 use Rattle.std.specs.Prelude.{◌≡◌, ◌<◌, ℕ, Bool, true, false, ◌==◌, ◌&&◌, not, nat_le, nat_lt, drop, List, [], ◌∷◌, if◌then◌else◌}
 use Rattle.std.specs.List.{AllByRecursion}
 use Rattle.std.proofs.Common.{arith, refl, ◌∙◌, ap, sym}
+use Rattle.std.proofs.lemmas.Bool.{eqb-true}
 use Rattle.std.proofs.lemmas.Bool.Decides.{nat_tests}
 use Rattle.sparc_decode.specs.declared.instr.Instr.{Instr}
 use Rattle.sparc_decode.specs.declared.instr.Op.{Op}
@@ -43,14 +44,11 @@ chosen : (b : Bool) (x x' y y' : Instr) → (b ≡ true → x ≡ x') → y ≡ 
 chosen true x x' y y' here there = here refl
 chosen false x x' y y' here there = there
 
-test_same : (k n : ℕ) → (k == n) ≡ true → k ≡ n
-test_same k n e = grind (arith, nat_tests)
-
 pub rows_agree : (rows : List Row) (key v w : ℕ) → AllByRecursion (λ (row : Row). row.0 ≡ key → row.1 v ≡ row.1 w) rows
     → by_row rows key v ≡ by_row rows key w
 rows_agree [] key v w agree = refl
 rows_agree (row ∷ rows) key v w agree =
-    chosen (row.0 == key) _ _ _ _ (λ t. agree.0 (test_same row.0 key t)) (rows_agree rows key v w agree.1)
+    chosen (row.0 == key) _ _ _ _ (λ t. agree.0 (eqb-true row.0 key t)) (rows_agree rows key v w agree.1)
 
 -- the fields of a form with rd, rs1 and a register as operand 2
 pub record SameRegisters (v w : ℕ) : Type 0 where
@@ -103,9 +101,6 @@ addresses_agree key v w low h =
 
 pub both : (a b : Bool) → a && b ≡ true → (a ≡ true) × (b ≡ true)
 both a b e = (and_first a b e, and_second a b e)
-
-pub is_number : (k n : ℕ) → (k == n) ≡ true → k ≡ n
-is_number k n e = grind (arith, nat_tests)
 
 pub is_below : (k n : ℕ) → nat_lt k n ≡ true → k < n
 is_below k n e = grind (arith, nat_tests)

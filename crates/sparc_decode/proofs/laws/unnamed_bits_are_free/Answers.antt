@@ -1,12 +1,13 @@
 use Rattle.std.specs.Prelude.{◌≡◌, ◌<◌, ℕ, true, false, ◌==◌, ◌&&◌, not, nat_lt}
 use Rattle.std.proofs.Common.{◌∙◌, sym, ap, refl}
+use Rattle.std.proofs.lemmas.Bool.{eqb-true}
 use Rattle.sparc_decode.specs.declared.instr.Op.{Op}
 use Rattle.sparc_decode.specs.declared.instr.Op.TheVariants as op
 use Rattle.sparc_decode.specs.Fields as field
 use Rattle.sparc_decode.specs.Forms as form
 use Rattle.sparc_decode.specs.Instr.{arithmetic_rows, by_row, instr}
 use Rattle.sparc_decode.specs.Laws.{is_arithmetic, ShiftsByRegisters, ShiftsByCounts, OperandsInRegisters}
-use Rattle.sparc_decode.proofs.Looks.{arithmetic_agree, addresses_agree, both, is_number, is_below, is_false, arithmetic_same, memory_same, SameRegisters, three_same, popc_same, write_state_same, return_same, return_on_registers_same, movcc_same, movr_same, shift_same, shift_by_count_same, tcc_same, tcc_on_registers_same, read_state_same, prefetch_same}
+use Rattle.sparc_decode.proofs.Looks.{arithmetic_agree, addresses_agree, both, is_below, is_false, arithmetic_same, memory_same, SameRegisters, three_same, popc_same, write_state_same, return_same, return_on_registers_same, movcc_same, movr_same, shift_same, shift_by_count_same, tcc_same, tcc_on_registers_same, read_state_same, prefetch_same}
 use Rattle.sparc_decode.proofs.laws.unnamed_bits_are_free.Goals as goal
 
 -- a word with i clear beside one that has the same i
@@ -19,7 +20,7 @@ returns-clause-arithmetic c v w passes s =
     let place = both (field.op v == 2) (nat_lt (field.op3 v) 0x20) parts.0 in
     let clear = is_false (field.i v) parts.1 in
     let low : field.op3 w < 0x20 = is_below _ _ (sym (ap (λ n. nat_lt n 0x20) s.1.1.0) ∙ place.1) in
-    arithmetic_same v w (field.op3 w) (is_number _ _ place.0) s.0 s.1.1.0 refl (arithmetic_agree (field.op3 w) v w low (record {
+    arithmetic_same v w (field.op3 w) (eqb-true _ _ place.0) s.0 s.1.1.0 refl (arithmetic_agree (field.op3 w) v w low (record {
       rd = s.1.0;
       rs1 = s.1.1.1.0;
       rs2 = s.1.1.1.1.1.0;
@@ -33,7 +34,7 @@ returns-clause-addresses c v w passes s =
     let place = both (field.op v == 3) (nat_lt (field.op3 v) 0x10) parts.0 in
     let clear = is_false (field.i v) parts.1 in
     let low : field.op3 w < 0x10 = is_below _ _ (sym (ap (λ n. nat_lt n 0x10) s.1.1.0) ∙ place.1) in
-    memory_same v w (field.op3 w) (is_number _ _ place.0) s.0 s.1.1.0 refl (addresses_agree (field.op3 w) v w low (record {
+    memory_same v w (field.op3 w) (eqb-true _ _ place.0) s.0 s.1.1.0 refl (addresses_agree (field.op3 w) v w low (record {
       rd = s.1.0;
       rs1 = s.1.1.1.0;
       rs2 = s.1.1.1.1.1.0;
@@ -46,8 +47,8 @@ at_place : (k v w : ℕ) → is_arithmetic k v ≡ true → field.op v ≡ field
     → by_row arithmetic_rows k v ≡ by_row arithmetic_rows k w → instr v ≡ instr w
 at_place k v w passes codes places agree =
     let parts = both (field.op v == 2) (field.op3 v == k) passes in
-    let place = is_number _ _ parts.1 in
-    arithmetic_same v w k (is_number _ _ parts.0) codes place (sym places ∙ place) agree
+    let place = eqb-true _ _ parts.1 in
+    arithmetic_same v w k (eqb-true _ _ parts.0) codes place (sym places ∙ place) agree
 
 shifted : (k : ℕ) (narrow wide : Op) → ((v w : ℕ) → form.shift narrow wide v ≡ form.shift narrow wide w → by_row arithmetic_rows k v ≡ by_row arithmetic_rows k w)
     → ShiftsByRegisters k
@@ -170,5 +171,5 @@ returns-clause-memory_flush c v w passes s = at_place 0x3B v w passes s.0 s.1.0 
 pub returns-clause-prefetches : goal.returns-clause-prefetches
 returns-clause-prefetches c v w passes s =
     let parts = both (field.op v == 3) (field.op3 v == 0x2D) passes in
-    let place = is_number _ _ parts.1 in
-    memory_same v w 0x2D (is_number _ _ parts.0) s.0 place (sym s.1.1.0 ∙ place) (prefetch_same v w s.1.0)
+    let place = eqb-true _ _ parts.1 in
+    memory_same v w 0x2D (eqb-true _ _ parts.0) s.0 place (sym s.1.1.0 ∙ place) (prefetch_same v w s.1.0)
