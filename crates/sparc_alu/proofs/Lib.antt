@@ -1,0 +1,4 @@
+pub mod Compared
+pub mod FourCodes
+pub mod Opposites
+pub mod SameBits

@@ -1,0 +1,19 @@
+//! What SPARC V9 instructions compute: results, condition codes, conditions and extended values.
+#![tactic(auto)]
+
+mod access;
+mod arithmetic;
+mod codes;
+mod condition;
+mod laws;
+mod numbers;
+mod products;
+mod shifts;
+
+pub use access::{cas_result, effective, load_extend};
+pub use arithmetic::{AluOut, DivisionByZero, alu};
+pub use condition::branch_taken;
+pub use laws::{conditions_have_opposites, subtraction_compares};
+
+#[cfg(test)]
+mod tests;
