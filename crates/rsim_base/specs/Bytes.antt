@@ -11,6 +11,14 @@ count_of B2 = 2
 count_of B4 = 4
 count_of B8 = 8
 
+-- the low bytes of a value, as many as the size
+abbrev pub low_bytes : Size → ℕ → ℕ
+low_bytes n value = value % 2 ^ (8 * count_of n)
+
+-- a value has no more bytes than the size
+abbrev pub FitsIn : Size → ℕ → Type 0
+FitsIn n value = value < 2 ^ (8 * count_of n)
+
 -- x is among the n bytes from address a on
 abbrev pub IsByteOf : ℕ → ℕ → ℕ → Type 0
 IsByteOf x a n = (k : ℕ) × (k < n) × (x ≡ (a + k) % 2 ^ 64)

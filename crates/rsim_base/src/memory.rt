@@ -1,6 +1,6 @@
 // Memory as the processors see it: addresses, accesses, and the bytes that they touch.
 ghost use Rattle.std.specs.Prelude.{◌≡◌, ◌≢◌, ◌↔◌, ◌+◌, ◌-◌, ◌*◌, ◌/◌, ◌%◌, ◌^◌, ◌<◌, IsTrue};
-ghost use Rattle.rsim_base.specs.Bytes.{count_of, Overlaps, Covers, gap_of, byte_of};
+ghost use Rattle.rsim_base.specs.Bytes.{count_of, low_bytes, Overlaps, Covers, gap_of, byte_of};
 
 /// A node of the machine: a processor with its caches and its share of the memory.
 #[derive(Clone, Copy, Debug, PartialEq, Eq)]
@@ -62,6 +62,18 @@ impl Size {
             Size::B2 => 2,
             Size::B4 => 4,
             Size::B8 => 8,
+        }
+    }
+
+    /// The low bytes of a value, as many as the size.
+    pub fn low(self, value: u64) -> u64
+        ensures { result ≡ low_bytes self value }
+    {
+        match self {
+            Size::B1 => value % (1 << 8),
+            Size::B2 => value % (1 << 16),
+            Size::B4 => value % (1 << 32),
+            Size::B8 => value,
         }
     }
 }
@@ -138,5 +150,9 @@ mod tests {
             assert_eq!(rt; cut(value, size, at), byte, "at {at}");
         }
         assert_eq!(rt; line_of(Addr(0x1FF), 64), Line(7));
+        assert_eq!(rt; Size::B1.low(value), 8);
+        assert_eq!(rt; Size::B2.low(value), 0x0708);
+        assert_eq!(rt; Size::B4.low(value), 0x0506_0708);
+        assert_eq!(rt; Size::B8.low(value), value);
     }
 }

@@ -10,7 +10,6 @@ use Rattle.rsim_top.specs.declared.refusal.Refusal.TheVariants.{Words, Read, Big
 use Rattle.rsim_top.specs.Answers.{Outside, Answers, AnswersAsked, AskedRun, IsExecutable, HasFile, HasPartOfFile, HasWritten, HasPartWritten, StopsAtOrder, StopsAtReport}
 use Rattle.rsim_top.specs.Machine.{order_of, report_of}
 use Rattle.rsim_top.specs.Parts.{HasRunFile, FailsToOrder, FailsToReport}
-use Rattle.rsim_top.specs.Processor.{ran_of}
 use Rattle.rsim_top.specs.Words.{Asked, asked}
 use Rattle.rsim_top.proofs.Fits.{Fit-from_sound}
 
@@ -31,10 +30,12 @@ asked_run old want file p executable run = record {
   loaded = run.1;
   steps = p.retired;
   order = p.order.items;
-  ran = ran_of p;
+  ran = run.2.sound.ran;
   fits = Fit-from_sound run.0 p run.2.sound;
+  printable = λ j e at. (run.2.sound.numbered j e at).printable;
+  few = run.2.sound.few;
   within = run.2.within;
-  over = run.2.over;
+  over = rw run.2.sound.is_run.state run.2.over;
 }
 
 -- the order was not written whole
@@ -65,7 +66,7 @@ Answers-at_order words want old new file p mid mid_faults why good executable ru
 pub Answers-at_report : (words : List (List ℕ)) (want : Asked) (old new : Outside) (file : List ℕ) (p : Processor) (mid : Option Files) (why : Refusal) →
     asked words ≡ Ok want → IsExecutable old.files want.exe file → HasRunFile file want.cycles p → mid ≡ old.files →
     HasFile want.order (order_of p.order.items p.retired) mid new.files → FailsToReport old.sink_faults new.sink_faults why →
-    HasPartWritten (report_of p.retired (ran_of p)) old.written new.written → Answers words old new (Err why)
+    HasPartWritten (report_of p.retired p.arch.end p.output.items) old.written new.written → Answers words old new (Err why)
 Answers-at_report words want old new file p mid why good executable run same order fails part =
     Answers-from_asked words want old new (Err why) good (by_cause why fails)
   where
@@ -73,7 +74,7 @@ Answers-at_report words want old new file p mid why good executable run same ord
     stops = record {
       made = asked_run old want file p executable run;
       order = subst (λ files. HasFile want.order (order_of p.order.items p.retired) files new.files) same order;
-      report = part;
+      report = rw (run.2.sound.is_run.state, run.2.sound.is_run.output) part;
     }
 
     by_cause : (why : Refusal) → FailsToReport old.sink_faults new.sink_faults why → AnswersAsked old new want (Err why)
@@ -89,12 +90,12 @@ Answers-at_report words want old new file p mid why good executable run same ord
 -- order and report are whole
 pub Answers-at_end : (words : List (List ℕ)) (want : Asked) (old new : Outside) (file : List ℕ) (p : Processor) (mid : Option Files) →
     asked words ≡ Ok want → IsExecutable old.files want.exe file → HasRunFile file want.cycles p → mid ≡ old.files →
-    HasFile want.order (order_of p.order.items p.retired) mid new.files → HasWritten (report_of p.retired (ran_of p)) old.written new.written →
+    HasFile want.order (order_of p.order.items p.retired) mid new.files → HasWritten (report_of p.retired p.arch.end p.output.items) old.written new.written →
     Answers words old new (Ok (record { cycles = p.retired; retired = p.retired }))
 Answers-at_end words want old new file p mid good executable run same order report =
     Answers-from_asked words want old new (Ok (record { cycles = p.retired; retired = p.retired })) good (record {
       made = asked_run old want file p executable run;
       steps = refl;
       order = subst (λ files. HasFile want.order (order_of p.order.items p.retired) files new.files) same order;
-      report = report;
+      report = rw (run.2.sound.is_run.state, run.2.sound.is_run.output) report;
     })

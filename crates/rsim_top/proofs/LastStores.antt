@@ -1,55 +1,61 @@
--- What a load reads in an order of aligned doublewords, each of which stands at the place of its number.
-use Rattle.std.proofs.Common.{◌≡◌, ◌⊎◌, ◌≤◌, ◌<◌, ◌+◌, ◌%◌, ◌^◌, ◌==◌, ◌&&◌, ◌++◌, ℕ, zero, suc, Bool, true, false, if◌then◌else◌, List, [], ◌∷◌, length, Option, None, Some, fold, slice_get, refl, sym, ap, ◌∙◌, subst, inl, inr, ⊎_elim, arith}
-use Rattle.std.proofs.lemmas.Bool.{eqb-true, eqb-false}
+-- What a load reads in an order of accesses, each of which stands at the place of its number.
+use Rattle.std.proofs.Common.{◌≡◌, ◌⊎◌, ◌≤◌, ◌<◌, ◌^◌, ◌&&◌, ◌++◌, ℕ, zero, suc, Bool, true, false, nat_lt, if◌then◌else◌, List, [], ◌∷◌, length, Option, None, Some, fold, slice_get, unwrap_or, refl, sym, ap, ◌∙◌, inl, inr, ⊎_elim, arith}
+use Rattle.std.proofs.lemmas.Bool.{ltb-true, ltb-false}
 use Rattle.std.proofs.lemmas.Option.{slice_get_within}
-use Rattle.rsim_base.specs.Bytes.{count_of, gap_of, byte_of, IsByteOf}
+use Rattle.rsim_base.specs.Bytes.{count_of, gap_of, IsByteOf}
 use Rattle.rsim_base.specs.declared.memory.Access.{Access}
-use Rattle.rsim_base.specs.declared.memory.Size.{Size}
+use Rattle.rsim_base.proofs.ByteSets.{IsByteOf-from_gap, gap_of-IsByteOf, count_of-bounds}
 use Rattle.elf64_load.specs.Image.{ImageView, byte_at}
 use Rattle.rsim_top.specs.Axioms.{loads, stores}
-use Rattle.rsim_top.specs.Memory.{IsAligned, IsDoubleword}
 use Rattle.rsim_top.specs.Processor.{IsNumbered, last_stored}
-use Rattle.rsim_top.specs.Values.{MayRead, ExplainsByte, Explains}
+use Rattle.rsim_top.specs.Values.{MayRead, ExplainsByte, Explains, loaded_byte, stored_byte}
 use Rattle.rsim_top.proofs.Places.{Some-injective, slice_get-append_left, slice_get_more}
 
 abbrev pub AreNumbered : List Access → Type 0
 AreNumbered order = (j : ℕ) (e : Access) → slice_get order j ≡ Some e → IsNumbered j e
 
--- ---- the bytes of aligned doublewords
+-- addresses are below 2^64
+abbrev pub AreInMemory : List Access → Type 0
+AreInMemory order = (j : ℕ) (e : Access) → slice_get order j ≡ Some e → e.addr.0 < 2 ^ 64
 
-count_of_aligned : (size : Size) (addr : ℕ) → IsAligned size addr → count_of size ≡ 8
-count_of_aligned size addr aligned = ap count_of aligned.is_doubleword
+-- the access has the byte
+abbrev pub has : Access → ℕ → Bool
+has e byte = nat_lt (gap_of e.addr.0 byte) (count_of e.size)
 
--- aligned doublewords with a common byte are at one address
-same_doubleword : (a b byte : ℕ) → a % 8 ≡ 0 → b % 8 ≡ 0 → a < 2 ^ 64 → b < 2 ^ 64 → IsByteOf byte a 8 → IsByteOf byte b 8 → a ≡ b
-same_doubleword a b byte ma mb fa fb (j, jb, je) (k, kb, ke) = omega arith
+has-IsByteOf : (e : Access) (byte : ℕ) → e.addr.0 < 2 ^ 64 → byte < 2 ^ 64 → has e byte ≡ true → IsByteOf byte e.addr.0 (count_of e.size)
+has-IsByteOf e byte fits byte_fits is = IsByteOf-from_gap byte e.addr.0 (count_of e.size) byte_fits fits (ltb-true (gap_of e.addr.0 byte) (count_of e.size) is)
 
--- a byte of an aligned doubleword is so far above its address
-gap_of_byte : (a byte : ℕ) → a % 8 ≡ 0 → a < 2 ^ 64 → IsByteOf byte a 8 → (gap_of a byte < 8) × (a + gap_of a byte ≡ byte)
-gap_of_byte a byte m f (k, kb, ke) = (omega arith, omega arith)
+has_not : (e : Access) (byte : ℕ) → e.addr.0 < 2 ^ 64 → has e byte ≡ false → IsByteOf byte e.addr.0 (count_of e.size) → ⊥
+has_not e byte fits is_not is =
+    let near = gap_of-IsByteOf byte e.addr.0 (count_of e.size) fits (count_of-bounds e.size).1 is in
+    let far = ltb-false (gap_of e.addr.0 byte) (count_of e.size) is_not in
+    omega (arith, near, far)
+
+pub byte_in_memory : (byte addr n : ℕ) → IsByteOf byte addr n → byte < 2 ^ 64
+byte_in_memory byte addr n (k, below, is) = omega arith
 
 -- ---- what was last stored
 
-pub record IsLastStore (order : List Access) (addr j : ℕ) (e : Access) : Type 0 where
+pub record IsLastStore (order : List Access) (byte j : ℕ) (e : Access) : Type 0 where
   pub stands : slice_get order j ≡ Some e
   pub writes : stores e.kind ≡ true
-  pub there : e.addr.0 ≡ addr
-  pub last : (k : ℕ) (f : Access) → slice_get order k ≡ Some f → stores f.kind ≡ true → f.addr.0 ≡ addr → k ≤ j
+  pub there : IsByteOf byte e.addr.0 (count_of e.size)
+  pub last : (k : ℕ) (f : Access) → slice_get order k ≡ Some f → stores f.kind ≡ true → IsByteOf byte f.addr.0 (count_of f.size) → k ≤ j
 
 abbrev pub NoStore : List Access → ℕ → Type 0
-NoStore order addr = (k : ℕ) (f : Access) → slice_get order k ≡ Some f → stores f.kind ≡ true → f.addr.0 ≡ addr → ⊥
+NoStore order byte = (k : ℕ) (f : Access) → slice_get order k ≡ Some f → stores f.kind ≡ true → IsByteOf byte f.addr.0 (count_of f.size) → ⊥
 
 abbrev pub stored_from : List Access → ℕ → Option ℕ → Option ℕ
-stored_from order addr start = fold (λ found e. if stores e.kind && (e.addr.0 == addr) then Some e.stored else found) start order
+stored_from order byte start = fold (λ found e. if stores e.kind && nat_lt (gap_of e.addr.0 byte) (count_of e.size) then Some (stored_byte e byte) else found) start order
 
 abbrev pub IsFound : List Access → ℕ → Option ℕ → Type 0
-IsFound order addr start =
-    ((stored_from order addr start ≡ start) × NoStore order addr)
-    ⊎ ((j : ℕ) × (e : Access) × IsLastStore order addr j e × (stored_from order addr start ≡ Some e.stored))
+IsFound order byte start =
+    ((stored_from order byte start ≡ start) × NoStore order byte)
+    ⊎ ((j : ℕ) × (e : Access) × IsLastStore order byte j e × (stored_from order byte start ≡ Some (stored_byte e byte)))
 
-found_further : (x : Access) (order : List Access) (addr : ℕ) (start : Option ℕ) (writes here : Bool) → stores x.kind ≡ writes → (x.addr.0 == addr) ≡ here →
-    IsFound order addr (if writes && here then Some x.stored else start) → IsFound (x ∷ order) addr start
-found_further x order addr start writes here w h (inr (j, e, is, found)) = inr (
+found_further : (x : Access) (order : List Access) (byte : ℕ) (start : Option ℕ) (writes here : Bool) → x.addr.0 < 2 ^ 64 → byte < 2 ^ 64 → stores x.kind ≡ writes → has x byte ≡ here →
+    IsFound order byte (if writes && here then Some (stored_byte x byte) else start) → IsFound (x ∷ order) byte start
+found_further x order byte start writes here fits byte_fits w h (inr (j, e, is, found)) = inr (
   suc j,
   e,
   record {
@@ -61,39 +67,40 @@ found_further x order addr start writes here w h (inr (j, e, is, found)) = inr (
   rw (w, h) found,
 )
   where
-    last_of : (k : ℕ) (f : Access) → slice_get (x ∷ order) k ≡ Some f → stores f.kind ≡ true → f.addr.0 ≡ addr → k ≤ suc j
+    last_of : (k : ℕ) (f : Access) → slice_get (x ∷ order) k ≡ Some f → stores f.kind ≡ true → IsByteOf byte f.addr.0 (count_of f.size) → k ≤ suc j
     last_of zero f at fw fa = omega arith
     last_of (suc k) f at fw fa = let b = is.last k f at fw fa in omega arith
-found_further x order addr start true true w h (inl (kept, none)) = inr (
+found_further x order byte start true true fits byte_fits w h (inl (kept, none)) = inr (
   zero,
   x,
   record {
     stands = refl;
     writes = w;
-    there = eqb-true x.addr.0 addr h;
+    there = has-IsByteOf x byte fits byte_fits h;
     last = λ k f. last_of k f;
   },
   rw (w, h) kept,
 )
   where
-    last_of : (k : ℕ) (f : Access) → slice_get (x ∷ order) k ≡ Some f → stores f.kind ≡ true → f.addr.0 ≡ addr → k ≤ zero
+    last_of : (k : ℕ) (f : Access) → slice_get (x ∷ order) k ≡ Some f → stores f.kind ≡ true → IsByteOf byte f.addr.0 (count_of f.size) → k ≤ zero
     last_of zero f at fw fa = omega arith
     last_of (suc k) f at fw fa = absurd (none k f at fw fa)
-found_further x order addr start true false w h (inl (kept, none)) = inl (rw (w, h) kept, λ k f. none_of k f)
+found_further x order byte start true false fits byte_fits w h (inl (kept, none)) = inl (rw (w, h) kept, λ k f. none_of k f)
   where
-    none_of : (k : ℕ) (f : Access) → slice_get (x ∷ order) k ≡ Some f → stores f.kind ≡ true → f.addr.0 ≡ addr → ⊥
-    none_of zero f at fw fa = let same = Some-injective at in let here : x.addr.0 ≡ addr = rw same fa in eqb-false x.addr.0 addr h here
+    none_of : (k : ℕ) (f : Access) → slice_get (x ∷ order) k ≡ Some f → stores f.kind ≡ true → IsByteOf byte f.addr.0 (count_of f.size) → ⊥
+    none_of zero f at fw fa = let same = Some-injective at in has_not x byte fits h (rw same fa)
     none_of (suc k) f at fw fa = none k f at fw fa
-found_further x order addr start false here w h (inl (kept, none)) = inl (rw w kept, λ k f. none_of k f)
+found_further x order byte start false here fits byte_fits w h (inl (kept, none)) = inl (rw w kept, λ k f. none_of k f)
   where
-    none_of : (k : ℕ) (f : Access) → slice_get (x ∷ order) k ≡ Some f → stores f.kind ≡ true → f.addr.0 ≡ addr → ⊥
+    none_of : (k : ℕ) (f : Access) → slice_get (x ∷ order) k ≡ Some f → stores f.kind ≡ true → IsByteOf byte f.addr.0 (count_of f.size) → ⊥
     none_of zero f at fw fa = absurd cc
     none_of (suc k) f at fw fa = none k f at fw fa
 
--- what was last stored at an address, if anything was
-found : (order : List Access) (addr : ℕ) (start : Option ℕ) → IsFound order addr start
-found [] addr start = inl (refl, λ k f at. absurd cc)
-found (x ∷ order) addr start = found_further x order addr start _ _ refl refl (found order addr _)
+-- what was last stored of a byte, if anything was
+found : (order : List Access) (byte : ℕ) (start : Option ℕ) → AreInMemory order → byte < 2 ^ 64 → IsFound order byte start
+found [] byte start fits byte_fits = inl (refl, λ k f at. absurd cc)
+found (x ∷ order) byte start fits byte_fits =
+    found_further x order byte start _ _ (fits zero x refl) byte_fits refl refl (found order byte _ (λ j e at. fits (suc j) e at) byte_fits)
 
 -- ---- an order that grew explains its earlier loads as before
 
@@ -134,39 +141,22 @@ explains_before image order new load at byte n l w (inr (none, same)) = inr (λ 
 
 -- ---- a load that comes last reads what was last stored
 
--- what it may read from is an earlier store at its address
-reads_there : (order : List Access) (load e : Access) (byte j : ℕ) → AreNumbered order → IsAligned load.size load.addr.0 → IsByteOf byte load.addr.0 (count_of load.size) →
-    MayRead (order ++ load ∷ []) (length order) load byte j e → (slice_get order j ≡ Some e) × (e.addr.0 ≡ load.addr.0)
-reads_there order load e byte j numbered aligned byte_in may = (stands, there)
+explains_last : (image : ImageView) (order : List Access) (load : Access) (byte : ℕ) → AreNumbered order → IsByteOf byte load.addr.0 (count_of load.size) →
+    loaded_byte load byte ≡ unwrap_or (last_stored order byte) (byte_at image byte) → ExplainsByte image (order ++ load ∷ []) (length order) load byte
+explains_last image order load byte numbered byte_in value =
+    by_found (found order byte None (λ j e at. (numbered j e at).printable.addr) (byte_in_memory byte load.addr.0 (count_of load.size) byte_in))
   where
-    stands : slice_get order j ≡ Some e
-    stands = ⊎_elim (λ old. old) (λ last. absurd (may.another last.0)) (slice_get_more order load j e may.stands)
+    -- what it may read from stands before it
+    stands_before : (j : ℕ) (e : Access) → MayRead (order ++ load ∷ []) (length order) load byte j e → slice_get order j ≡ Some e
+    stands_before j e may = ⊎_elim (λ old. old) (λ last. absurd (may.another last.0)) (slice_get_more order load j e may.stands)
 
-    there : e.addr.0 ≡ load.addr.0
-    there =
-        let is = (numbered j e stands).aligned in
-        same_doubleword e.addr.0 load.addr.0 byte is.multiple aligned.multiple is.fits aligned.fits
-        (subst (IsByteOf byte e.addr.0) (count_of_aligned e.size e.addr.0 is) may.byte_in)
-        (subst (IsByteOf byte load.addr.0) (count_of_aligned load.size load.addr.0 aligned) byte_in)
-
-explains_last : (image : ImageView) (order : List Access) (load : Access) (byte : ℕ) → AreNumbered order → IsAligned load.size load.addr.0 →
-    IsDoubleword image (last_stored order load.addr.0) load.addr.0 load.loaded → IsByteOf byte load.addr.0 (count_of load.size) → ExplainsByte image (order ++ load ∷ []) (length order) load byte
-explains_last image order load byte numbered aligned value byte_in = by_found (found order load.addr.0 None)
-  where
-    by_found : IsFound order load.addr.0 None → ExplainsByte image (order ++ load ∷ []) (length order) load byte
-    by_found (inl (nothing, none)) =
-        let at_image = subst (λ s. IsDoubleword image s load.addr.0 load.loaded) nothing value in
-        let gap = gap_of_byte load.addr.0 byte aligned.multiple aligned.fits (subst (IsByteOf byte load.addr.0) (count_of_aligned load.size load.addr.0 aligned) byte_in) in
-        inr (
-          λ j e may. let reads = reads_there order load e byte j numbered aligned byte_in may in none j e reads.0 may.writes reads.1,
-          ap (λ n. byte_of load.loaded n (gap_of load.addr.0 byte)) (count_of_aligned load.size load.addr.0 aligned)
-              ∙ at_image (gap_of load.addr.0 byte) gap.0 ∙ ap (byte_at image) gap.1,
-        )
+    by_found : IsFound order byte None → ExplainsByte image (order ++ load ∷ []) (length order) load byte
+    by_found (inl (nothing, none)) = inr (
+      λ j e may. none j e (stands_before j e may) may.writes may.byte_in,
+      value ∙ ap (λ s. unwrap_or s (byte_at image byte)) nothing,
+    )
     by_found (inr (j, e, is, something)) =
-        let at_store = subst (λ s. IsDoubleword image s load.addr.0 load.loaded) something value in
-        let e_aligned = (numbered j e is.stands).aligned in
         let within = slice_get_within order j e is.stands in
-        let same_count = count_of_aligned load.size load.addr.0 aligned ∙ sym (count_of_aligned e.size e.addr.0 e_aligned) in
         inl (
           j,
           e,
@@ -174,24 +164,25 @@ explains_last image order load byte numbered aligned value byte_in = by_found (f
             may = record {
               stands = slice_get-append_left order (load ∷ []) j e is.stands;
               writes = is.writes;
-              byte_in = rw (is.there, ← same_count) byte_in;
+              byte_in = is.there;
               another = λ same. omega arith;
               before = inl within;
             };
-            last = λ k f may. let reads = reads_there order load f byte k numbered aligned byte_in may in is.last k f reads.0 may.writes reads.1;
+            last = λ k f may. is.last k f (stands_before k f may) may.writes may.byte_in;
           },
-          rw (at_store, same_count, is.there) refl,
+          value ∙ ap (λ s. unwrap_or s (byte_at image byte)) something,
         )
 
 -- ---- an order with one access more
 
 pub explains_more : (image : ImageView) (order : List Access) (new : Access) → AreNumbered order → new.index ≡ length order → Explains image order →
-    (loads new.kind ≡ true → IsAligned new.size new.addr.0 × IsDoubleword image (last_stored order new.addr.0) new.addr.0 new.loaded) → Explains image (order ++ new ∷ [])
+    (loads new.kind ≡ true → (byte : ℕ) → IsByteOf byte new.addr.0 (count_of new.size) → loaded_byte new byte ≡ unwrap_or (last_stored order byte) (byte_at image byte)) →
+    Explains image (order ++ new ∷ [])
 explains_more image order new numbered new_numbered explained value at load stands is_load byte byte_in =
     ⊎_elim
     (λ old. explains_before image order new load at byte new_numbered (numbered at load old).index (slice_get_within order at load old) (explained at load old is_load byte byte_in))
-    (λ last. rw (last.0, last.1) (explains_last image order new byte numbered (of_new last.1).0 (of_new last.1).1 (rw last.1 at byte_in)))
+    (λ last. rw (last.0, last.1) (explains_last image order new byte numbered (rw last.1 at byte_in) (of_new last.1 (rw last.1 at byte_in))))
     (slice_get_more order new at load stands)
   where
-    of_new : load ≡ new → IsAligned new.size new.addr.0 × IsDoubleword image (last_stored order new.addr.0) new.addr.0 new.loaded
-    of_new same = value (ap (λ (a : Access). loads a.kind) (sym same) ∙ is_load)
+    of_new : load ≡ new → IsByteOf byte new.addr.0 (count_of new.size) → loaded_byte new byte ≡ unwrap_or (last_stored order byte) (byte_at image byte)
+    of_new same is_in = value (ap (λ (a : Access). loads a.kind) (sym same) ∙ is_load) byte is_in

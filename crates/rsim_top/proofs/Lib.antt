@@ -1,7 +1,9 @@
 pub mod AnswerCases
+pub mod Digits
 pub mod Doublewords
 pub mod Exact
 pub mod Fits
+pub mod Found
 pub mod Hex
 pub mod LastStores
 pub mod Names
@@ -12,3 +14,4 @@ pub mod Runs
 pub mod Sound
 pub mod Stored
 pub mod Texts
+pub mod Writes

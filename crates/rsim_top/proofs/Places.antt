@@ -5,6 +5,10 @@ use Rattle.std.proofs.lemmas.Option.{slice_get-map}
 pub Some-injective : {A : Type 0} {x y : A} → Some x ≡ Some y → x ≡ y
 Some-injective e = cc
 
+pub slice_get_none : {A : Type 0} (xs : List A) (i : ℕ) (x : A) → xs ≡ [] → slice_get xs i ≡ Some x → ⊥
+slice_get_none [] i x e at = absurd cc
+slice_get_none (y ∷ xs) i x e at = absurd cc
+
 pub slice_get-append_left : {A : Type 0} (xs ys : List A) (i : ℕ) (x : A) → slice_get xs i ≡ Some x → slice_get (xs ++ ys) i ≡ Some x
 slice_get-append_left [] ys i x e = absurd cc
 slice_get-append_left (y ∷ xs) ys zero x e = e

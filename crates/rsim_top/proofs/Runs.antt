@@ -1,48 +1,16 @@
 -- Runs on more loaded values, and by one step more.
-use Rattle.std.proofs.Common.{◌≡◌, ◌++◌, ◌&&◌, ◌%◌, ◌==◌, ℕ, zero, suc, Bool, true, false, not, if◌then◌else◌, List, length, Option, None, Some, is_none, unwrap_or, option_and_then, slice_get, refl, ap, ◌∙◌}
-use Rattle.elf64_load.specs.Image.{ImageView, fetched, is_readable}
+use Rattle.std.proofs.Common.{◌≡◌, ◌++◌, ◌&&◌, ℕ, zero, suc, Bool, true, false, not, if◌then◌else◌, List, length, Option, None, Some, is_none, unwrap_or, option_and_then, slice_get, refl, ap, ◌∙◌}
 use Rattle.rsim_base.specs.declared.memory.Access.{Access}
-use Rattle.rsim_top.specs.declared.arch.Act.{Act}
-use Rattle.rsim_top.specs.declared.arch.Act.TheVariants.{Nothing, Load, Store, Out, End as Ended}
-use Rattle.rsim_top.specs.declared.arch.Arch.{Arch}
-use Rattle.rsim_top.specs.declared.arch.End.TheVariants.{Trapped}
-use Rattle.rsim_base.specs.declared.memory.Size.TheVariants.{B8}
-use Rattle.rsim_top.specs.declared.decode.Instr.{Instr}
-use Rattle.rsim_top.specs.declared.decode.Instr.TheVariants.{Sethi, Compute, Branch, Load as Loads, Store as Stores, Trap, Unbuilt as NotBuilt}
-use Rattle.rsim_top.specs.Arch.{Stepped, step, of_word, executed, address, ends, goes_on, with_register, is_running}
-use Rattle.rsim_top.specs.Instr.{instr}
-use Rattle.rsim_top.specs.Memory.{value_of}
+use Rattle.elf64_load.specs.Image.{ImageView}
+use Rattle.sparc_meaning.specs.declared.acts.Act.{Act}
+use Rattle.sparc_meaning.specs.declared.acts.Act.TheVariants.{Nothing, Load, Store, Atomic, Fence, Out, End as Ended}
+use Rattle.sparc_meaning.specs.declared.arch.Arch.{Arch}
+use Rattle.sparc_meaning.specs.Arch.{is_running}
+use Rattle.sparc_meaning.specs.Run.{Ran, run, advanced, after, is_load, accesses_of}
+use Rattle.sparc_meaning.specs.Step.{step}
+use Rattle.sparc_meaning.proofs.StepIgnores.{step_ignores}
 use Rattle.rsim_top.specs.Processor.{loaded_values}
-use Rattle.rsim_top.specs.Run.{Ran, run, advanced, after, is_load, accesses_of}
 use Rattle.rsim_top.proofs.Places.{slice_get-append_left, slice_get_mapped_last, slice_get_mapped_past}
-
--- ---- a step that loads nothing doesn't use its value
-
-at_doubleword_ignores : (aligned allowed : Bool) (p q x y : Stepped) → is_load x.act ≡ true →
-    is_load (if not aligned then p else (if not allowed then q else x)).act ≡ false →
-    (if not aligned then p else (if not allowed then q else y)) ≡ (if not aligned then p else (if not allowed then q else x))
-at_doubleword_ignores false allowed p q x y loads quiet = refl
-at_doubleword_ignores true false p q x y loads quiet = refl
-at_doubleword_ignores true true p q x y loads quiet = absurd cc
-
-executed_ignores : (image : ImageView) (i : Instr) (s : Arch) (v w : ℕ) → is_load (executed image i s v).act ≡ false → executed image i s w ≡ executed image i s v
-executed_ignores image (Sethi d immediate) s v w quiet = refl
-executed_ignores image (Compute function d a b) s v w quiet = refl
-executed_ignores image (Branch condition a annul displacement) s v w quiet = refl
-executed_ignores image (Loads d a b) s v w quiet =
-    let addr = address s a b in
-    at_doubleword_ignores (addr % 8 == 0) (is_readable image addr 8) (ends (Trapped 0x034 s.pc) s) (ends (Trapped 0x030 s.pc) s)
-    (goes_on (Load (record { 0 = addr }) B8 v) (with_register d v s)) (goes_on (Load (record { 0 = addr }) B8 w) (with_register d w s)) refl quiet
-executed_ignores image (Stores d a b) s v w quiet = refl
-executed_ignores image (Trap a b) s v w quiet = refl
-executed_ignores image NotBuilt s v w quiet = refl
-
-of_word_ignores : (image : ImageView) (word : Option ℕ) (s : Arch) (v w : ℕ) → is_load (of_word image word s v).act ≡ false → of_word image word s w ≡ of_word image word s v
-of_word_ignores image None s v w quiet = refl
-of_word_ignores image (Some word) s v w quiet = executed_ignores image (instr word) s v w quiet
-
-pub step_ignores : (image : ImageView) (s : Arch) (v w : ℕ) → is_load (step image s v).act ≡ false → step image s w ≡ step image s v
-step_ignores image s v w quiet = of_word_ignores image (fetched image s.pc) s v w quiet
 
 -- ---- a run on values goes the same way where more follow
 
@@ -84,26 +52,42 @@ run_more_values image p n (suc k) vs more ran e =
 
 -- ---- one step more
 
+-- the value that a step has loaded
+abbrev pub value_of : Act → ℕ
+value_of (Load addr size loaded) = loaded
+value_of (Atomic addr size loaded stored) = loaded
+value_of Nothing = 0
+value_of (Store addr size stored) = 0
+value_of (Fence mask) = 0
+value_of (Out spoken) = 0
+value_of Ended = 0
+
 -- the value that an access leaves among the loaded ones
 abbrev pub found_of : Act → Option ℕ
-found_of (Load addr size value) = Some value
-found_of (Store addr size value) = Some 0
+found_of (Load addr size loaded) = Some loaded
+found_of (Atomic addr size loaded stored) = Some loaded
+found_of (Store addr size stored) = Some 0
 found_of Nothing = None
+found_of (Fence mask) = None
 found_of (Out spoken) = None
 found_of Ended = None
 
 pub next_value : (order : List Access) (act : Act) → slice_get (loaded_values (order ++ accesses_of 0 (length order) act)) (length order) ≡ found_of act
-next_value order (Load addr size value) = slice_get_mapped_last (λ e. e.loaded) order _
-next_value order (Store addr size value) = slice_get_mapped_last (λ e. e.loaded) order _
+next_value order (Load addr size loaded) = slice_get_mapped_last (λ e. e.loaded) order _
+next_value order (Store addr size stored) = slice_get_mapped_last (λ e. e.loaded) order _
+next_value order (Atomic addr size loaded stored) = slice_get_mapped_last (λ e. e.loaded) order _
 next_value order Nothing = slice_get_mapped_past (λ e. e.loaded) order
+next_value order (Fence mask) = slice_get_mapped_past (λ e. e.loaded) order
 next_value order (Out spoken) = slice_get_mapped_past (λ e. e.loaded) order
 next_value order Ended = slice_get_mapped_past (λ e. e.loaded) order
 
 advance_on : (image : ImageView) (p : ℕ) (ran : Ran) (new : Arch) (act : Act) → is_running ran.state.end ≡ true → step image ran.state (value_of act) ≡ record { state = new; act = act } →
     advanced_on image p (found_of act) ran ≡ Some (after p ran (record { state = new; act = act }))
-advance_on image p ran new (Load addr size value) running stepped = rw (stepped, running) refl
-advance_on image p ran new (Store addr size value) running stepped = rw (stepped, running) refl
+advance_on image p ran new (Load addr size loaded) running stepped = rw (stepped, running) refl
+advance_on image p ran new (Store addr size stored) running stepped = rw (stepped, running) refl
+advance_on image p ran new (Atomic addr size loaded stored) running stepped = rw (stepped, running) refl
 advance_on image p ran new Nothing running stepped = rw (stepped, running) refl
+advance_on image p ran new (Fence mask) running stepped = rw (stepped, running) refl
 advance_on image p ran new (Out spoken) running stepped = rw (stepped, running) refl
 advance_on image p ran new Ended running stepped = rw (stepped, running) refl
 

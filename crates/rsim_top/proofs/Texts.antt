@@ -1,4 +1,4 @@
--- The texts of the machine's order and report, as a format writes them.
+-- The texts of the machine's order and report, piece by piece.
 use Rattle.std.proofs.Common.{◌≡◌, ◌+◌, ℕ, zero, suc, Some, slice_get, add-one, List, [], ◌∷◌, ◌++◌, take, drop, codes, decimal, length, append_assoc, append-nil, arith, refl, sym, ap, ◌∙◌}
 use Rattle.std.proofs.lemmas.Fmt.{decimal_digit}
 use Rattle.std.proofs.lemmas.List.{take-append-drop, flat_map_more}
@@ -6,11 +6,10 @@ use Rattle.std.proofs.lemmas.List.Concat.{flat_map-append}
 use Rattle.std.specs.List.{flat_map}
 use Rattle.rsim_base.specs.declared.memory.Access.{Access}
 use Rattle.rsim_base.specs.declared.memory.Model.TheVariants.{Sc}
+use Rattle.sparc_meaning.specs.declared.arch.End.{End}
 use Rattle.rsim_top.specs.OrderText.{heading, line, ending}
 use Rattle.rsim_top.specs.Machine.{order_of, report_of}
 use Rattle.rsim_top.specs.ReportText.{report, end_text}
-use Rattle.rsim_top.specs.declared.arch.End.{End}
-use Rattle.rsim_top.specs.Run.{Ran}
 
 pub heading-text : heading Sc 1 ≡ codes "rsim order 1\nmodel sc\nprocessors 1\n"
 unfolding heading
@@ -42,12 +41,6 @@ take_next (y ∷ xs) (suc i) x at = ap (λ t. y ∷ t) (take_next xs i x at)
 pub lines_more : (order : List Access) (i : ℕ) (e : Access) → slice_get order i ≡ Some e → (heading Sc 1 ++ flat_map line (take i order)) ++ line e ≡ heading Sc 1 ++ flat_map line (take (i + 1) order)
 lines_more order i e at = rw add-one (flat_map_more line (heading Sc 1) (take i order) e ∙ ap (λ t. heading Sc 1 ++ flat_map line t) (sym (take_next order i e at)))
 
--- the pieces of a line, as a format puts them
-pub joined_line : (node index kind count address loaded stored text : List ℕ) →
-    text ≡ node ++ 32 ∷ (index ++ 32 ∷ (kind ++ 32 ∷ (count ++ 32 ∷ (address ++ 32 ∷ ((loaded ++ 32 ∷ stored) ++ 10 ∷ []))))) →
-    text ≡ node ++ 32 ∷ (index ++ 32 ∷ (kind ++ 32 ∷ (count ++ 32 ∷ (address ++ 32 ∷ (loaded ++ 32 ∷ (stored ++ 10 ∷ []))))))
-joined_line node index kind count address loaded stored text e = e ∙ simp append_assoc
-
 -- what stands before the output, and behind it
 abbrev pub head_of : ℕ → End → ℕ → List ℕ
 head_of steps how len = codes "rsim report 1\ncycles " ++ (decimal steps ++ (codes "\nprocessor 0 retired " ++ (decimal steps ++ (codes " " ++ (end_text how ++ (codes "\noutput 0 " ++ (decimal len ++ codes "\n")))))))
@@ -55,9 +48,9 @@ head_of steps how len = codes "rsim report 1\ncycles " ++ (decimal steps ++ (cod
 abbrev pub no_counts : List ℕ
 no_counts = codes "\nunperformed 0\ncount fetched 0\ncount dispatched 0\ncount issued 0\ncount bound 0\ncount forwarded 0\ncount settled 0\ncount performed 0\ncount squashed 0\ncount mispredicts 0\ncount rollbacks 0\ncount wishes 0\ncount lost 0\nend\n"
 
-report_of-text : (steps : ℕ) (ran : Ran) → report_of steps ran ≡ head_of steps ran.state.end (length ran.output) ++ ran.output ++ no_counts
+report_of-text : (steps : ℕ) (how : End) (output : List ℕ) → report_of steps how output ≡ head_of steps how (length output) ++ output ++ no_counts
 unfolding report_of report
-report_of-text steps ran = rw (decimal_digit 0 (omega arith)) (simp append_assoc)
+report_of-text steps how output = rw (decimal_digit 0 (omega arith)) (simp append_assoc)
 
-pub report_of-parts : (steps : ℕ) (ran : Ran) (head text : List ℕ) → head ≡ head_of steps ran.state.end (length ran.output) → text ≡ head ++ ran.output ++ no_counts → text ≡ report_of steps ran
-report_of-parts steps ran head text e is = is ∙ ap (λ h. h ++ ran.output ++ no_counts) e ∙ sym (report_of-text steps ran)
+pub report_of-parts : (steps : ℕ) (how : End) (output head text : List ℕ) → head ≡ head_of steps how (length output) → text ≡ head ++ output ++ no_counts → text ≡ report_of steps how output
+report_of-parts steps how output head text e is = is ∙ ap (λ h. h ++ output ++ no_counts) e ∙ sym (report_of-text steps how output)

@@ -1,6 +1,6 @@
 -- The answers of `run_command`: what each of them says of the command line, the files and the failures,
 -- and what stands after it.
-use Rattle.std.specs.Prelude.{◌≡◌, ◌⊎◌, ℕ, ◌<◌, ◌≤◌, false, List, [], ◌∷◌, ◌++◌, length, Option, Some, None, Result, Ok, Err, IfSome, IsSomeAnd, option_map}
+use Rattle.std.specs.Prelude.{◌≡◌, ◌⊎◌, ℕ, ◌<◌, ◌≤◌, false, List, [], ◌∷◌, ◌++◌, length, slice_get, Option, Some, None, Result, Ok, Err, IfSome, IsSomeAnd, option_map}
 use Rattle.std.specs.FinMap.{get, insert}
 use Rattle.rsim_base.specs.declared.memory.Access.{Access}
 use Rattle.rsim_base.specs.declared.memory.Model.TheVariants.{Sc}
@@ -10,15 +10,16 @@ use Rattle.rsim_io.specs.Written.{and_then}
 use Rattle.elf64_load.specs.Image.{ImageView}
 use Rattle.elf64_load.specs.Elf.{image_of}
 use Rattle.elf64_load.specs.declared.fault.ElfFault.TheVariants.{Unbuilt, Memory as ElfMemory}
+use Rattle.sparc_meaning.specs.Arch.{is_running}
+use Rattle.sparc_meaning.specs.Run.{Ran}
 use Rattle.rsim_top.specs.declared.refusal.File.TheVariants.{Exe, Order, Report}
 use Rattle.rsim_top.specs.declared.refusal.Refusal.{Refusal}
 use Rattle.rsim_top.specs.declared.refusal.WordsFault.{WordsFault}
 use Rattle.rsim_top.specs.declared.refusal.Refusal.TheVariants.{Words, Read, Big, Elf, Write, Memory}
 use Rattle.rsim_top.specs.declared.command.Reported.{Reported}
-use Rattle.rsim_top.specs.Arch.{is_running}
 use Rattle.rsim_top.specs.Machine.{order_of, report_of}
+use Rattle.rsim_top.specs.OrderText.{IsPrintable}
 use Rattle.rsim_top.specs.Fit.{Fit}
-use Rattle.rsim_top.specs.Run.{Ran}
 use Rattle.rsim_top.specs.Words.{Asked, asked}
 
 -- ---- the outside
@@ -71,8 +72,8 @@ abbrev pub IsTooLong : Option Files → List ℕ → Type 0
 IsTooLong files name = IfSome files (λ files. IsSomeAnd (get files name) (λ file. longest_exe < length file))
 
 -- The run that a command asks for: its executable, that file's image, so many steps of one processor, and an
--- order that fits them under sequential consistency. The steps are as many as the bound on the cycles, or the
--- last one ended the processor.
+-- order that fits them under sequential consistency, of no more accesses than steps, and such that its lines can hold
+-- these. The steps are as many as the bound on the cycles, or the last one ended the processor.
 pub record AskedRun (old : Outside) (want : Asked) : Type 0 where
   pub file : List ℕ
   pub executable : IsExecutable old.files want.exe file
@@ -82,6 +83,8 @@ pub record AskedRun (old : Outside) (want : Asked) : Type 0 where
   pub order : List Access
   pub ran : Ran
   pub fits : Fit image Sc (steps ∷ []) order (ran ∷ [])
+  pub printable : (j : ℕ) (e : Access) → slice_get order j ≡ Some e → IsPrintable e
+  pub few : length order ≤ steps
   pub within : steps ≤ want.cycles
   pub over : (steps ≡ want.cycles) ⊎ (is_running ran.state.end ≡ false)
 
@@ -92,7 +95,7 @@ pub record Succeeds (old new : Outside) (want : Asked) (reported : Reported) : T
   pub made : AskedRun old want
   pub steps : reported ≡ record { cycles = made.steps; retired = made.steps }
   pub order : HasFile want.order (order_of made.order made.steps) old.files new.files
-  pub report : HasWritten (report_of made.steps made.ran) old.written new.written
+  pub report : HasWritten (report_of made.steps made.ran.state.end made.ran.output) old.written new.written
 
 -- the order was not written whole, and nothing was written of the report
 pub record StopsAtOrder (old new : Outside) (want : Asked) : Type 0 where
@@ -104,7 +107,7 @@ pub record StopsAtOrder (old new : Outside) (want : Asked) : Type 0 where
 pub record StopsAtReport (old new : Outside) (want : Asked) : Type 0 where
   pub made : AskedRun old want
   pub order : HasFile want.order (order_of made.order made.steps) old.files new.files
-  pub report : HasPartWritten (report_of made.steps made.ran) old.written new.written
+  pub report : HasPartWritten (report_of made.steps made.ran.state.end made.ran.output) old.written new.written
 
 -- The words were good: what is answered then.
 abbrev pub AnswersAsked : Outside → Outside → Asked → Result Reported Refusal → Type 0

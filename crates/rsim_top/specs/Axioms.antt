@@ -1,12 +1,13 @@
 -- Which accesses of one program must stand in their program's order, under each consistency model. The
 -- models are those of this project's orders; sc is Lamport's sequential consistency.
-use Rattle.std.specs.Prelude.{ℕ, Bool, true, false, not, ◌&&◌, ◌||◌, nat_lt}
+use Rattle.std.specs.Prelude.{Bool, true, false, not, ◌&&◌, ◌||◌, nat_lt}
 use Rattle.rsim_base.specs.Bytes.{count_of, gap_of}
 use Rattle.rsim_base.specs.declared.memory.Access.{Access}
 use Rattle.rsim_base.specs.declared.memory.Kind.{Kind}
 use Rattle.rsim_base.specs.declared.memory.Kind.TheVariants.{Load, Store, Atomic}
 use Rattle.rsim_base.specs.declared.memory.Model.{Model}
 use Rattle.rsim_base.specs.declared.memory.Model.TheVariants.{Sc, Pc, Rc}
+use Rattle.sparc_meaning.specs.Run.{Made}
 
 -- An atomic loads and stores.
 abbrev pub loads : Kind → Bool
@@ -18,22 +19,6 @@ abbrev pub stores : Kind → Bool
 stores Load = false
 stores Store = true
 stores Atomic = true
-
--- how many fences a program has run so far, by what they order: an earlier load or store before a later
--- load or store
-pub record Fences : Type 0 where
-  pub load_load : ℕ
-  pub store_load : ℕ
-  pub load_store : ℕ
-  pub store_store : ℕ
-
-abbrev pub no_fences : Fences
-no_fences = record { load_load = 0; store_load = 0; load_store = 0; store_store = 0 }
-
--- an access that a program has made, and the fences before it
-pub record Made : Type 0 where
-  pub access : Access
-  pub fences : Fences
 
 -- some byte is in both
 abbrev pub overlap : Access → Access → Bool

@@ -3,9 +3,9 @@ use Rattle.std.specs.Prelude.{◌≡◌, ℕ, true, List, Some, length, map, sli
 use Rattle.rsim_base.specs.declared.memory.Access.{Access}
 use Rattle.rsim_base.specs.declared.memory.Model.{Model}
 use Rattle.elf64_load.specs.Image.{ImageView}
+use Rattle.sparc_meaning.specs.Run.{Ran, run}
 use Rattle.rsim_top.specs.Axioms.{loads}
 use Rattle.rsim_top.specs.Order.{Respects}
-use Rattle.rsim_top.specs.Run.{Ran, run}
 use Rattle.rsim_top.specs.Values.{Explains}
 
 -- The runs are those of so many steps of each processor on the values that the order says were loaded; the

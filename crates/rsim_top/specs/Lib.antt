@@ -1,10 +1,8 @@
 pub mod Answers
-pub mod Arch
 pub mod Axioms
 pub mod Command
 pub mod Fit
 pub mod Hex
-pub mod Instr
 pub mod Machine
 pub mod Memory
 pub mod Order
@@ -13,6 +11,5 @@ pub mod Parts
 pub mod Processor
 pub mod Refusals
 pub mod ReportText
-pub mod Run
 pub mod Values
 pub mod Words

@@ -3,14 +3,14 @@
 use Rattle.std.specs.Prelude.{ℕ, List, [], ◌∷◌, replicate}
 use Rattle.rsim_base.specs.declared.memory.Access.{Access}
 use Rattle.rsim_base.specs.declared.memory.Model.TheVariants.{Sc}
+use Rattle.sparc_meaning.specs.declared.arch.End.{End}
 use Rattle.rsim_top.specs.OrderText.{certificate}
 use Rattle.rsim_top.specs.ReportText.{report}
-use Rattle.rsim_top.specs.Run.{Ran}
 
 -- its order, under sequential consistency
 unfoldable pub order_of : List Access → ℕ → List ℕ
 order_of order steps = certificate Sc 1 order (steps ∷ [])
 
--- its report: no store waits, and nothing is counted
-unfoldable pub report_of : ℕ → Ran → List ℕ
-report_of steps ran = report steps (steps ∷ []) (ran.state.end ∷ []) (ran.output ∷ []) 0 (replicate 12 0)
+-- its report, where it has ended so and put these bytes: no store waits, and nothing is counted
+unfoldable pub report_of : ℕ → End → List ℕ → List ℕ
+report_of steps how output = report steps (steps ∷ []) (how ∷ []) (output ∷ []) 0 (replicate 12 0)

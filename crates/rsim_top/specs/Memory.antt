@@ -1,58 +1,61 @@
--- What a processor finds in memory: the doublewords that were stored, and the image's bytes elsewhere.
-use Rattle.std.specs.Prelude.{◌≡◌, ℕ, ◌+◌, ◌%◌, ◌^◌, ◌<◌, nat_eq, if◌then◌else◌, Option, Some, None}
+-- Memory as a processor finds it, byte by byte: what was stored last, and the image's bytes elsewhere.
+use Rattle.std.specs.Prelude.{◌≡◌, ℕ, ◌+◌, ◌-◌, ◌%◌, ◌^◌, ◌<◌, nat_eq, nat_lt, if◌then◌else◌, Option, Some, None}
 use Rattle.std.specs.HashMap.{get}
-use Rattle.rsim_base.specs.Bytes.{byte_of}
+use Rattle.rsim_base.specs.Bytes.{count_of, byte_of, gap_of, FitsIn}
 use Rattle.rsim_base.specs.declared.memory.Size.{Size}
-use Rattle.rsim_base.specs.declared.memory.Size.TheVariants.{B8}
 use Rattle.elf64_load.specs.Image.{ImageView, byte_at}
+use Rattle.sparc_meaning.specs.declared.acts.Act.{Act}
+use Rattle.sparc_meaning.specs.declared.acts.Act.TheVariants.{Nothing, Load, Store, Atomic, Fence, Out, End as Ended}
 use Rattle.rsim_top.specs.declared.memory.Memory.{Memory}
-use Rattle.rsim_top.specs.declared.arch.Act.{Act}
-use Rattle.rsim_top.specs.declared.arch.Act.TheVariants.{Nothing, Load, Store, Out, End as Ended}
 
--- the value of the doubleword at an address, where this was found stored there
-abbrev pub IsDoubleword : ImageView → Option ℕ → ℕ → ℕ → Type 0
-IsDoubleword image (Some stored) addr value = value ≡ stored
-IsDoubleword image None addr value = (k : ℕ) → k < 8 → byte_of value 8 k ≡ byte_at image (addr + k)
+-- the doubleword that was stored at a multiple of 8
+abbrev pub doubleword_at : Memory → ℕ → Option ℕ
+doubleword_at memory addr = get nat_eq memory.doublewords addr
 
--- the value that a step loaded
-abbrev pub value_of : Act → ℕ
-value_of (Load addr size value) = value
-value_of Nothing = 0
-value_of (Store addr size value) = 0
-value_of (Out spoken) = 0
-value_of Ended = 0
+-- a byte, where this was found of its doubleword
+abbrev pub of_doubleword : ImageView → Option ℕ → ℕ → ℕ
+of_doubleword image (Some value) a = byte_of value 8 (a % 8)
+of_doubleword image None a = byte_at image a
 
--- what was last stored at an address
-abbrev pub stored_at : Memory → ℕ → Option ℕ
-stored_at memory addr = get nat_eq memory.stored addr
+-- the byte at an address
+abbrev pub byte_in : ImageView → Memory → ℕ → ℕ
+byte_in image memory a = of_doubleword image (doubleword_at memory (a - a % 8)) a
 
--- an access of a doubleword at a multiple of 8
-pub record IsAligned (size : Size) (addr : ℕ) : Type 0 where
-  pub is_doubleword : size ≡ B8
-  pub multiple : addr % 8 ≡ 0
-  pub fits : addr < 2 ^ 64
+-- a value of this size has the bytes from an address on
+abbrev pub IsValueAt : ImageView → Memory → ℕ → Size → ℕ → Type 0
+IsValueAt image memory addr n value = (k : ℕ) → k < count_of n → byte_of value (count_of n) k ≡ byte_in image memory (addr + k)
 
--- a step that stores or makes no access
-abbrev pub LoadsNothing : Act → Type 0
-LoadsNothing (Load addr size value) = ⊥
-LoadsNothing (Store addr size value) = IsAligned size addr.0
-LoadsNothing Nothing = Unit {0}
-LoadsNothing (Out spoken) = Unit {0}
-LoadsNothing Ended = Unit {0}
+-- memory after the store of a value at an address: its bytes stand there, and elsewhere all is as before
+abbrev pub IsWritten : ImageView → ℕ → Size → ℕ → Memory → Memory → Type 0
+IsWritten image addr n value old new = (a : ℕ) → a < 2 ^ 64
+    → byte_in image new a ≡ (if nat_lt (gap_of addr a) (count_of n) then byte_of value (count_of n) (gap_of addr a) else byte_in image old a)
 
--- a step that accesses memory does so at an aligned doubleword, and loads what stands there
-abbrev pub IsAccess : ImageView → Memory → Act → Type 0
-IsAccess image memory (Load addr size value) =
-    IsAligned size addr.0 × IsDoubleword image (stored_at memory addr.0) addr.0 value
-IsAccess image memory (Store addr size value) = IsAligned size addr.0
-IsAccess image memory Nothing = Unit {0}
-IsAccess image memory (Out spoken) = Unit {0}
-IsAccess image memory Ended = Unit {0}
+-- memory after a step
+abbrev pub IsStored : ImageView → Act → Memory → Memory → Type 0
+IsStored image (Store addr size stored) old new = IsWritten image addr.0 size stored old new
+IsStored image (Atomic addr size loaded stored) old new = IsWritten image addr.0 size stored old new
+IsStored image (Load addr size loaded) old new = new ≡ old
+IsStored image Nothing old new = new ≡ old
+IsStored image (Fence mask) old new = new ≡ old
+IsStored image (Out spoken) old new = new ≡ old
+IsStored image Ended old new = new ≡ old
 
--- memory after a step: what it stored stands at its address, and elsewhere all is as before
-abbrev pub IsStored : Act → Memory → Memory → Type 0
-IsStored (Store addr size value) old new = (a : ℕ) → stored_at new a ≡ (if nat_eq addr.0 a then Some value else stored_at old a)
-IsStored (Load addr size value) old new = new ≡ old
-IsStored Nothing old new = new ≡ old
-IsStored (Out spoken) old new = new ≡ old
-IsStored Ended old new = new ≡ old
+-- a step that reads memory finds what stands there
+abbrev pub FindsMemory : ImageView → Memory → Act → Type 0
+FindsMemory image memory (Load addr size loaded) = IsValueAt image memory addr.0 size loaded × FitsIn size loaded
+FindsMemory image memory (Atomic addr size loaded stored) = IsValueAt image memory addr.0 size loaded × FitsIn size loaded
+FindsMemory image memory (Store addr size stored) = Unit {0}
+FindsMemory image memory Nothing = Unit {0}
+FindsMemory image memory (Fence mask) = Unit {0}
+FindsMemory image memory (Out spoken) = Unit {0}
+FindsMemory image memory Ended = Unit {0}
+
+-- the address of an access has 64 bits, and so has what a store stores
+abbrev pub IsInMemory : Act → Type 0
+IsInMemory (Load addr size loaded) = addr.0 < 2 ^ 64
+IsInMemory (Store addr size stored) = (addr.0 < 2 ^ 64) × (stored < 2 ^ 64)
+IsInMemory (Atomic addr size loaded stored) = addr.0 < 2 ^ 64
+IsInMemory Nothing = Unit {0}
+IsInMemory (Fence mask) = Unit {0}
+IsInMemory (Out spoken) = Unit {0}
+IsInMemory Ended = Unit {0}

@@ -2,7 +2,8 @@
 use Rattle.std.specs.Prelude.{◌≡◌, ℕ, ◌<◌, true, List, Option, Some, slice_get, option_and_then}
 use Rattle.rsim_base.specs.declared.memory.Access.{Access}
 use Rattle.rsim_base.specs.declared.memory.Model.{Model}
-use Rattle.rsim_top.specs.Axioms.{Made, needs}
+use Rattle.sparc_meaning.specs.Run.{Made}
+use Rattle.rsim_top.specs.Axioms.{needs}
 
 -- access i of program p
 abbrev pub made_at : List (List Made) → ℕ → ℕ → Option Made

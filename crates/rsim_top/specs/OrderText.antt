@@ -1,7 +1,7 @@
 -- The text of an order of memory accesses.
-use Rattle.std.specs.Prelude.{ℕ, ◌*◌, Bool, if◌then◌else◌, List, [], ◌∷◌, ◌++◌, codes, decimal}
+use Rattle.std.specs.Prelude.{ℕ, ◌*◌, ◌^◌, ◌<◌, Bool, if◌then◌else◌, List, [], ◌∷◌, ◌++◌, codes, decimal}
 use Rattle.std.specs.List.{concat, flat_map}
-use Rattle.rsim_base.specs.Bytes.{count_of}
+use Rattle.rsim_base.specs.Bytes.{count_of, low_bytes, FitsIn}
 use Rattle.rsim_base.specs.declared.memory.Access.{Access}
 use Rattle.rsim_base.specs.declared.memory.Kind.{Kind}
 use Rattle.rsim_base.specs.declared.memory.Kind.TheVariants.{Load, Store, Atomic}
@@ -21,9 +21,15 @@ kind_letter Load = codes "L"
 kind_letter Store = codes "S"
 kind_letter Atomic = codes "A"
 
--- a value in twice as many digits as it has bytes
+-- the numbers of an access are such that its line can hold them
+pub record IsPrintable (e : Access) : Type 0 where
+  pub addr : e.addr.0 < 2 ^ 64
+  pub loaded : FitsIn e.size e.loaded
+  pub stored : FitsIn e.size e.stored
+
+-- a value's low bytes, in twice as many digits
 abbrev pub value_text : Size → ℕ → List ℕ
-value_text size value = hex (2 * count_of size) value
+value_text size value = hex (2 * count_of size) (low_bytes size value)
 
 -- a value that the kind has, else a dash
 abbrev pub value_or_dash : Bool → Size → ℕ → List ℕ

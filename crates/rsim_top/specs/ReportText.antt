@@ -2,14 +2,13 @@
 use Rattle.std.specs.Prelude.{ℕ, ◌+◌, List, [], ◌∷◌, ◌++◌, length, codes, decimal}
 use Rattle.std.specs.List.{concat}
 use Rattle.rsim_top.specs.Hex.{hex}
-use Rattle.rsim_top.specs.declared.arch.End.{End}
-use Rattle.rsim_top.specs.declared.arch.End.TheVariants.{Running, Exit, Trapped, Unbuilt}
+use Rattle.sparc_meaning.specs.declared.arch.End.{End}
+use Rattle.sparc_meaning.specs.declared.arch.End.TheVariants.{Running, Exit, Trapped}
 
 abbrev pub end_text : End → List ℕ
 end_text Running = codes "running"
 end_text (Exit status) = codes "exit " ++ decimal status
 end_text (Trapped trap pc) = codes "trap " ++ (hex 3 trap ++ (codes " " ++ hex 16 pc))
-end_text (Unbuilt pc) = codes "unbuilt " ++ hex 16 pc
 
 -- the line of each processor from p on: the steps that it retired, and how it ended
 abbrev pub processor_lines : ℕ → List ℕ → List End → List ℕ

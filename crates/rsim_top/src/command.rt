@@ -4,7 +4,6 @@ ghost use Rattle.rsim_io.specs.Faults.{HasCause};
 ghost use Rattle.rsim_top.specs.Answers.{Answers, IsExact, IsExecutable, HasFile, HasPartOfFile, HasWritten, HasPartWritten};
 ghost use Rattle.rsim_top.specs.Machine.{order_of, report_of};
 ghost use Rattle.rsim_top.specs.Parts.{FailsToFetch, HasRunFile, FailsToRun, FailsToOrder, FailsToReport};
-ghost use Rattle.rsim_top.specs.Processor.{ran_of};
 ghost use Rattle.rsim_top.specs.Refusals.{write_refusal_of};
 
 use crate::order_file::store_order;
@@ -133,8 +132,8 @@ fn write_order<S: Shelf>(
 
 // Writes the report of a run.
 fn write_report<K: Sink>(alloc: Global, processor: &Processor, out: &mut K) -> Result<(), Refusal>
-    ensures written { OnOk result (HasWritten (report_of processor.now.retired (ran_of processor.now)) (K.written out.old) (K.written out.new)) }
-    ensures part { OnErr result (HasPartWritten (report_of processor.now.retired (ran_of processor.now)) (K.written out.old) (K.written out.new)) }
+    ensures written { OnOk result (HasWritten (report_of processor.now.retired processor.now.arch.end processor.now.output.items) (K.written out.old) (K.written out.new)) }
+    ensures part { OnErr result (HasPartWritten (report_of processor.now.retired processor.now.arch.end processor.now.output.items) (K.written out.old) (K.written out.new)) }
     ensures refused { IfErr result (FailsToReport (K.faults out.old) (K.faults out.new)) }
     ensures faults { K.faults out.old ≤ K.faults out.new }
 {

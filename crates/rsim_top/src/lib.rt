@@ -1,9 +1,7 @@
 //! All that the programs do: from the words of a command line and the outside to an answer.
 #![tactic(auto)]
 
-mod arch;
 mod command;
-mod decode;
 mod memory;
 mod order_file;
 mod order_text;

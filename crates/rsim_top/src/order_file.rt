@@ -29,21 +29,21 @@ pub fn store_order<S: Shelf>(
     ensures cause { HasCause (IsErrOf result StoreFault.Failed) (S.faults shelf.old) (S.faults shelf.new) }
 {
     shelf.create(name)?;
-    let mut piece = String::new(alloc);
+    let mut piece = Vec::new(alloc);
     let Ok(()) = push_heading(&mut piece) else {
         return Err(StoreFault::Memory);
     };
     for access in order {
-        let Ok(()) = push_line(alloc, &mut piece, access) else {
+        let Ok(()) = push_line(&mut piece, access) else {
             return Err(StoreFault::Memory);
         };
         if piece.len() >= PIECE {
-            shelf.append(name, piece.as_bytes())?;
+            shelf.append(name, &piece)?;
             piece.clear();
         }
     }
-    let Ok(()) = push_ending(alloc, &mut piece, retired) else {
+    let Ok(()) = push_ending(&mut piece, retired) else {
         return Err(StoreFault::Memory);
     };
-    shelf.append(name, piece.as_bytes())
+    shelf.append(name, &piece)
 }

@@ -1,81 +1,105 @@
 // The text of an order.
-ghost use Rattle.std.specs.Prelude.{◌≡◌, ◌++◌, ◌∷◌, [], IfOk, OnOk, Some, string_bytes};
+ghost use Rattle.std.specs.Prelude.{◌≡◌, ◌++◌, ◌∷◌, [], OnOk, codes, decimal};
+ghost use Rattle.std.specs.List.{concat};
 ghost use Rattle.rsim_base.specs.Bytes.{count_of};
 ghost use Rattle.rsim_base.specs.declared.memory.Model.{Model};
 ghost use Rattle.rsim_top.specs.Axioms.{loads, stores};
 ghost use Rattle.rsim_top.specs.OrderText.{kind_letter, value_text, value_or_dash, line, heading, ending};
 
+use itoa::Buffer;
 use rsim_base::{Access, Kind, NoMemory, Size};
-use std::alloc::Global;
-use std::fmt;
 
 /// Puts what stands before the accesses of one processor under sequential consistency.
-pub fn push_heading(text: &mut String) -> Result<(), NoMemory>
-    ensures { OnOk result (string_bytes text.new ≡ string_bytes text.old ++ heading Model.Sc 1) }
+pub fn push_heading(text: &mut Vec<u8>) -> Result<(), NoMemory>
+    ensures { OnOk result (text.new.items ≡ text.old.items ++ heading Model.Sc 1) }
 {
-    push(text, "rsim order 1\nmodel sc\nprocessors 1\n")
+    push(text, b"rsim order 1\nmodel sc\nprocessors 1\n")
 }
 
 /// Puts the line of an access.
-pub fn push_line(alloc: Global, text: &mut String, access: &Access) -> Result<(), NoMemory>
-    ensures { OnOk result (string_bytes text.new ≡ string_bytes text.old ++ line access.now) }
+pub fn push_line(text: &mut Vec<u8>, access: &Access) -> Result<(), NoMemory>
+    ensures { OnOk result (text.new.items ≡ text.old.items ++ line access.now) }
 {
-    match line(alloc, access) {
-        Ok(piece) => push(text, piece.as_str()),
-        Err(NoMemory) => Err(NoMemory),
-    }
+    push_decimal(text, access.node.0 as u64, b' ')?;
+    push_decimal(text, access.index as u64, b' ')?;
+    push(text, letter(access.kind))?;
+    push_byte(text, b' ')?;
+    push_decimal(text, access.size.count(), b' ')?;
+    push_hex(text, Size::B8, access.addr.0)?;
+    push_byte(text, b' ')?;
+    push_values(text, access)
 }
 
 /// Puts what stands behind the accesses: the steps that the processor retired.
-pub fn push_ending(alloc: Global, text: &mut String, retired: u32) -> Result<(), NoMemory>
-    ensures { OnOk result (string_bytes text.new ≡ string_bytes text.old ++ ending (retired ∷ [])) }
+pub fn push_ending(text: &mut Vec<u8>, retired: u32) -> Result<(), NoMemory>
+    ensures { OnOk result (text.new.items ≡ text.old.items ++ ending (retired ∷ [])) }
 {
-    match format!(in alloc; "end {retired}\n") {
-        Ok(piece) => push(text, piece.as_str()),
-        Err(_) => Err(NoMemory),
+    push(text, b"end ")?;
+    push_decimal(text, retired as u64, b'\n')
+}
+
+/// Puts a number in decimal, and the byte that stands behind it.
+pub fn push_decimal(text: &mut Vec<u8>, number: u64, behind: u8) -> Result<(), NoMemory>
+    ensures { OnOk result (text.new.items ≡ text.old.items ++ decimal number ++ behind ∷ []) }
+{
+    let mut digits = Buffer::new();
+    push(text, digits.format(number).as_bytes())?;
+    push_byte(text, behind)
+}
+
+// The loaded and the stored value, with which a line ends.
+fn push_values(text: &mut Vec<u8>, access: &Access) -> Result<(), NoMemory>
+    ensures { OnOk result (text.new.items ≡ text.old.items ++ concat (value_or_dash (loads access.now.kind) access.now.size access.now.loaded
+        ∷ codes " " ∷ value_or_dash (stores access.now.kind) access.now.size access.now.stored ∷ codes "\n" ∷ [])) }
+{
+    push_value(text, loads(access.kind), access.size, access.loaded)?;
+    push_byte(text, b' ')?;
+    push_value(text, stores(access.kind), access.size, access.stored)?;
+    push_byte(text, b'\n')
+}
+
+// A value, or a dash where there is none.
+fn push_value(text: &mut Vec<u8>, has: bool, size: Size, value: u64) -> Result<(), NoMemory>
+    ensures { OnOk result (text.new.items ≡ text.old.items ++ value_or_dash has size value) }
+{
+    if has {
+        push_hex(text, size, value)
+    } else {
+        push_byte(text, b'-')
     }
 }
 
-fn push(text: &mut String, piece: &str) -> Result<(), NoMemory>
-    ensures { OnOk result (string_bytes text.new ≡ string_bytes text.old ++ piece.now) }
+// The low bytes of a value in hexadecimal, two digits for each.
+fn push_hex(text: &mut Vec<u8>, size: Size, value: u64) -> Result<(), NoMemory>
+    ensures { OnOk result (text.new.items ≡ text.old.items ++ value_text size value) }
 {
-    match text.push_str(piece) {
-        Ok(()) => Ok(()),
-        Err(_) => Err(NoMemory),
-    }
-}
-
-fn line(alloc: Global, access: &Access) -> Result<String, NoMemory>
-    ensures { IfOk result (λ text. string_bytes text ≡ line access.now) }
-{
-    let (node, index, address) = (access.node.0, access.index, access.addr.0);
-    let kind = letter(access.kind);
-    let count = access.size.count();
-    let values = Values {
-        loaded: Value {
-            has: loads(access.kind),
-            size: access.size,
-            value: access.loaded,
-        },
-        stored: Value {
-            has: stores(access.kind),
-            size: access.size,
-            value: access.stored,
-        },
+    let mut digits = [0; 16];
+    let Ok(()) = hex::encode_to_slice(value.to_be_bytes(), &mut digits) else {
+        unreachable!()
     };
-    match format!(in alloc; "{node} {index} {kind} {count} {address:016x} {values}\n") {
-        Ok(text) => Ok(text),
-        Err(_) => Err(NoMemory),
-    }
+    let unwanted = 16 - 2 * size.count() as usize;
+    push(text, &digits[unwanted..])
 }
 
-fn letter(kind: Kind) -> &'static str
+fn push(text: &mut Vec<u8>, piece: &[u8]) -> Result<(), NoMemory>
+    ensures { OnOk result (text.new.items ≡ text.old.items ++ piece.now) }
+{
+    text.extend_from_slice(piece).map_err(|_| NoMemory)
+}
+
+fn push_byte(text: &mut Vec<u8>, byte: u8) -> Result<(), NoMemory>
+    ensures { OnOk result (text.new.items ≡ text.old.items ++ byte ∷ []) }
+{
+    text.push(byte).map_err(|_| NoMemory)
+}
+
+fn letter(kind: Kind) -> &'static [u8]
     ensures { result.now ≡ kind_letter kind }
 {
     match kind {
-        Kind::Load => "L",
-        Kind::Store => "S",
-        Kind::Atomic => "A",
+        Kind::Load => b"L",
+        Kind::Store => b"S",
+        Kind::Atomic => b"A",
     }
 }
 
@@ -89,44 +113,4 @@ fn stores(kind: Kind) -> bool
     ensures { result ≡ stores kind }
 {
     kind != Kind::Load
-}
-
-// A value in twice as many digits as it has bytes, or a dash where there is none.
-#[derive(Drop)]
-struct Value {
-    has: bool,
-    size: Size,
-    value: u64,
-}
-
-impl fmt::Display for Value {
-    ghost output = { λ v. Some (value_or_dash v.has v.size v.value) };
-
-    fn fmt<W: fmt::Write>(&self, f: &mut fmt::Formatter<W>) -> fmt::Result {
-        if !self.has {
-            return write!(f, "-");
-        }
-        let value = self.value;
-        match self.size {
-            Size::B1 => write!(f, "{value:02x}"),
-            Size::B2 => write!(f, "{value:04x}"),
-            Size::B4 => write!(f, "{value:08x}"),
-            Size::B8 => write!(f, "{value:016x}"),
-        }
-    }
-}
-
-// The loaded and the stored value of an access.
-#[derive(Drop)]
-struct Values {
-    loaded: Value,
-    stored: Value,
-}
-
-impl fmt::Display for Values {
-    ghost output = { λ v. Some (value_or_dash v.loaded.has v.loaded.size v.loaded.value ++ 32 ∷ value_or_dash v.stored.has v.stored.size v.stored.value) };
-
-    fn fmt<W: fmt::Write>(&self, f: &mut fmt::Formatter<W>) -> fmt::Result {
-        write!(f, "{} {}", self.loaded, self.stored)
-    }
 }

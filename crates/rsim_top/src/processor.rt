@@ -1,14 +1,17 @@
 // A processor that runs one instruction after another, and keeps what it puts.
-ghost use Rattle.std.specs.Prelude.{◌≡◌, ◌+◌, ◌<◌, ◌^◌, ◌++◌, ◌∷◌, [], IfOk, OnOk, IsTrue, length};
-ghost use Rattle.rsim_top.specs.Arch.{is_running};
-ghost use Rattle.rsim_top.specs.Memory.{IsStored};
-ghost use Rattle.rsim_top.specs.Run.{spoken_text, output_of, accesses_of};
+ghost use Rattle.std.specs.Prelude.{◌≡◌, ◌+◌, ◌%◌, ◌<◌, ◌^◌, ◌++◌, ◌∷◌, [], ℕ, IfOk, OnOk, IsTrue, length};
+ghost use Rattle.rsim_base.specs.Bytes.{count_of};
+ghost use Rattle.sparc_meaning.specs.Acts.{IsAligned};
+ghost use Rattle.sparc_meaning.specs.Arch.{is_running, IsSound as IsSoundState};
+ghost use Rattle.sparc_meaning.specs.Run.{output_of, accesses_of};
+ghost use Rattle.sparc_meaning.specs.Step.{step as step_of};
+ghost use Rattle.rsim_top.specs.Memory.{FindsMemory, IsInMemory, IsStored};
 
-use crate::arch::{Act, Arch, Spoken};
 use crate::memory::Memory;
+use crate::order_text::push_decimal;
 use elf64_load::Image;
-use itoa::Buffer;
 use rsim_base::{Access, Addr, Kind, NoMemory, Node, Size};
+use sparc_meaning::{Act, Arch, Spoken, Want, boot, peek, step};
 use std::alloc::Global;
 
 /// The one processor of the machine: its state, the steps that it has retired, its accesses in their
@@ -23,7 +26,7 @@ pub struct Processor {
 }
 
 impl Processor {
-    ghost use Rattle.rsim_top.specs.Processor.{ran_of, IsOver, IsSound};
+    ghost use Rattle.rsim_top.specs.Processor.{IsOver, IsSound};
 
     // A processor at the start.
     fn boot(alloc: Global, image: &Image) -> Processor
@@ -31,7 +34,7 @@ impl Processor {
         ensures retired { result.retired ≡ 0 }
     {
         Processor {
-            arch: Arch::boot(image, Node(0), 1),
+            arch: boot(image, Node(0), 1),
             retired: 0,
             order: Vec::new(alloc),
             output: Vec::new(alloc),
@@ -58,76 +61,83 @@ impl Processor {
         ensures sound { OnOk result (IsSound image.now self.new) }
         ensures retired { OnOk result (self.new.retired ≡ self.old.retired + 1) }
     {
-        let act = self.arch.step(image, &self.memory);
-        perform(act, &mut self.order, &mut self.memory, &mut self.output)?;
+        let value = value_for(&self.arch, image, &self.memory);
+        let act = step(&mut self.arch, image, value);
+        perform(
+            act,
+            image,
+            &mut self.order,
+            &mut self.memory,
+            &mut self.output,
+        )?;
         self.retired += 1;
         Ok(())
+    }
+}
+
+// What memory has where the next step reads it.
+fn value_for(arch: &Arch, image: &Image, memory: &Memory) -> u64
+    requires sound { IsSoundState arch.now }
+    requires running { IsTrue (is_running arch.now.end) }
+    ensures { FindsMemory image.now memory.now (step_of image.now arch.now result).act }
+{
+    match peek(arch, image) {
+        Want::Load(addr, n) | Want::Atomic(addr, n) => memory.read(image, addr.0, n),
+        Want::None | Want::Ended => 0,
     }
 }
 
 // Does what a step does beside changing the state.
 fn perform(
     act: Act,
+    image: &Image,
     order: &mut Vec<Access>,
     memory: &mut Memory,
     output: &mut Vec<u8>,
 ) -> Result<(), NoMemory>
-    requires { length order.old.items < 2 ^ 32 }
+    requires countable { length order.old.items < 2 ^ 32 }
+    requires aligned { IsAligned act }
+    ensures fits { IsInMemory act }
     ensures order { OnOk result (order.new.items ≡ order.old.items ++ accesses_of 0 (length order.old.items) act) }
-    ensures memory { OnOk result (IsStored act memory.old memory.new) }
+    ensures memory { OnOk result (IsStored image.now act memory.old memory.new) }
     ensures output { OnOk result (output.new.items ≡ output.old.items ++ output_of act) }
 {
-    let index = order.len() as u32;
     match act {
-        Act::Load(addr, size, loaded) => order
-            .push(load_access(index, addr, size, loaded))
-            .map_err(|_| NoMemory),
-        Act::Store(addr, size, stored) => {
-            memory.write(addr.0, stored)?;
-            order
-                .push(store_access(index, addr, size, stored))
-                .map_err(|_| NoMemory)
+        Act::Load(addr, n, loaded) => list(order, Kind::Load, addr, n, loaded, 0),
+        Act::Store(addr, n, stored) => {
+            memory.write(image, addr.0, n, stored)?;
+            list(order, Kind::Store, addr, n, 0, stored)
+        }
+        Act::Atomic(addr, n, loaded, stored) => {
+            memory.write(image, addr.0, n, stored)?;
+            list(order, Kind::Atomic, addr, n, loaded, stored)
         }
         Act::Out(Spoken::Byte(byte)) => output.push(byte).map_err(|_| NoMemory),
-        Act::Out(Spoken::Number(number)) => put_number(output, number),
-        Act::Nothing | Act::End => Ok(()),
+        Act::Out(Spoken::Number(number)) => push_decimal(output, number, b'\n'),
+        Act::Nothing | Act::Fence(_) | Act::End => Ok(()),
     }
 }
 
-fn load_access(index: u32, addr: Addr, size: Size, loaded: u64) -> Access
-    ensures { result ∷ [] ≡ accesses_of 0 index (Act.Load addr size loaded) }
+// Puts an access at the end of the order, with the next number.
+fn list(
+    order: &mut Vec<Access>,
+    kind: Kind,
+    addr: Addr,
+    size: Size,
+    loaded: u64,
+    stored: u64,
+) -> Result<(), NoMemory>
+    requires { length order.old.items < 2 ^ 32 }
+    ensures { OnOk result (order.new.items ≡ order.old.items ++ record { node = record { 0 = 0 }; index = length order.old.items; kind = kind; addr = addr; size = size; loaded = loaded; stored = stored } ∷ []) }
 {
-    Access {
+    let access = Access {
         node: Node(0),
-        index,
-        kind: Kind::Load,
+        index: order.len() as u32,
+        kind,
         addr,
         size,
         loaded,
-        stored: 0,
-    }
-}
-
-fn store_access(index: u32, addr: Addr, size: Size, stored: u64) -> Access
-    ensures { result ∷ [] ≡ accesses_of 0 index (Act.Store addr size stored) }
-{
-    Access {
-        node: Node(0),
-        index,
-        kind: Kind::Store,
-        addr,
-        size,
-        loaded: 0,
         stored,
-    }
-}
-
-// Puts a number in decimal and a line feed.
-fn put_number(output: &mut Vec<u8>, number: u64) -> Result<(), NoMemory>
-    ensures { OnOk result (output.new.items ≡ output.old.items ++ spoken_text (Spoken.Number number)) }
-{
-    let mut digits = Buffer::new();
-    let digits = digits.format(number).as_bytes();
-    output.extend_from_slice(digits).map_err(|_| NoMemory)?;
-    output.push(b'\n').map_err(|_| NoMemory)
+    };
+    order.push(access).map_err(|_| NoMemory)
 }

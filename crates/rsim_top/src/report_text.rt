@@ -1,12 +1,11 @@
 // The text of a report.
 ghost use Rattle.std.specs.Prelude.{◌≡◌, ◌++◌, IfOk, OnOk, Some};
 ghost use Rattle.rsim_top.specs.Machine.{report_of};
-ghost use Rattle.rsim_top.specs.Processor.{ran_of};
 ghost use Rattle.rsim_top.specs.ReportText.{end_text};
 
-use crate::arch::End;
 use crate::processor::Processor;
 use rsim_base::NoMemory;
+use sparc_meaning::End;
 use std::alloc::Global;
 use std::fmt;
 
@@ -14,25 +13,28 @@ use std::fmt;
 const NO_COUNTS: &str =
     "\nunperformed 0\ncount fetched 0\ncount dispatched 0\ncount issued 0\ncount bound 0\ncount forwarded 0\ncount settled 0\ncount performed 0\ncount squashed 0\ncount mispredicts 0\ncount rollbacks 0\ncount wishes 0\ncount lost 0\nend\n";
 
-impl fmt::Display for End {
-    ghost output = { λ end. Some (end_text end) };
+// How a processor stands, as a report has it.
+#[derive(Clone, Copy)]
+struct Ending(End);
+
+impl fmt::Display for Ending {
+    ghost output = { λ ending. Some (end_text ending.0) };
 
     fn fmt<W: fmt::Write>(&self, f: &mut fmt::Formatter<W>) -> fmt::Result {
-        match self {
+        match self.0 {
             End::Running => write!(f, "running"),
             End::Exit(status) => write!(f, "exit {status}"),
             End::Trapped(trap, pc) => write!(f, "trap {trap:03x} {pc:016x}"),
-            End::Unbuilt(pc) => write!(f, "unbuilt {pc:016x}"),
         }
     }
 }
 
 /// The report of a run of one processor, whose steps took a cycle each.
 pub fn report_text(alloc: Global, processor: &Processor) -> Result<Vec<u8>, NoMemory>
-    ensures { IfOk result (λ text. text.items ≡ report_of processor.now.retired (ran_of processor.now)) }
+    ensures { IfOk result (λ text. text.items ≡ report_of processor.now.retired processor.now.arch.end processor.now.output.items) }
 {
     let retired = processor.retired;
-    let end = processor.arch.end;
+    let end = Ending(processor.arch.end);
     let length = processor.output.len();
     let Ok(head) = format!(in alloc;
         "rsim report 1\ncycles {retired}\nprocessor 0 retired {retired} {end}\noutput 0 {length}\n"

@@ -139,9 +139,26 @@ fn a_run_stops_at_its_bound(rt: HostRuntime) -> Result<(), Fail> {
 #[test]
 fn programs_end_as_the_manual_says(rt: HostRuntime) -> Result<(), Fail> {
     let alloc = rt.alloc();
-    let cases: [(&[u32], u32, &str, &str); 19] = [
-        // a form that is not built: JMPL
-        (&[0x81C06000], 1, "unbuilt 0000000000100000", ""),
+    let cases: [(&[u32], u32, &str, &str); 23] = [
+        // a jump to 0 by way of its slot, where there is no instruction
+        (&[0x81C06000], 2, "trap 008 0000000000100004", ""),
+        // a jump to where no text is, after its slot
+        (
+            &[0x03000800, 0x81C06000, 0x01000000],
+            4,
+            "trap 008 0000000000200000",
+            "",
+        ),
+        // a division by 0: 0 by itself
+        (
+            &[0x90482003, 0x906A0000, 0x91D02012],
+            2,
+            "trap 028 0000000000100004",
+            "",
+        ),
+        // an illegal word, and floating point: FADDd
+        (&[0x00000000], 1, "trap 010 0000000000100000", ""),
+        (&[0x81A00840], 1, "trap 020 0000000000100000", ""),
         // no instruction behind the text, after a NOP
         (&[0x01000000], 2, "trap 008 0000000000100004", ""),
         // a trap that is no service
@@ -171,9 +188,9 @@ fn programs_end_as_the_manual_says(rt: HostRuntime) -> Result<(), Fail> {
         (&[0x11000001, 0x90120009, 0x91D02010], 3, "exit 1025", ""),
         // the number of a trap is a sum: 1 and 15
         (&[0x91D2600F], 1, "exit 0", ""),
-        // Tcc under another condition, or with a reserved cc, is not built
-        (&[0x81D02010], 1, "unbuilt 0000000000100000", ""),
-        (&[0x91D02810], 1, "unbuilt 0000000000100000", ""),
+        // a trap that is never taken, and one with a reserved cc
+        (&[0x81D02010], 2, "trap 008 0000000000100004", ""),
+        (&[0x91D02810], 1, "trap 010 0000000000100000", ""),
         // -1 + 2
         (&[0x90103FFF, 0x90022002, 0x91D02010], 3, "exit 1", ""),
         // 0 - 1
@@ -209,7 +226,7 @@ fn programs_end_as_the_manual_says(rt: HostRuntime) -> Result<(), Fail> {
 #[test]
 fn branches_run_or_annul_their_slots(rt: HostRuntime) -> Result<(), Fail> {
     let alloc = rt.alloc();
-    let cases: [(&[u32], u32, &str); 11] = [
+    let cases: [(&[u32], u32, &str); 12] = [
         // taken: the slot puts 7 into %o0, and the trap behind it is passed
         (
             &[0x02C80003, 0x90102007, 0x91D02005, 0x91D02010],
@@ -244,9 +261,17 @@ fn branches_run_or_annul_their_slots(rt: HostRuntime) -> Result<(), Fail> {
         (&[0x02E80000, 0x01000000], 3, "trap 008 00000000000e0000"),
         (&[0x02D83FFF, 0x01000000], 3, "trap 008 000000000011fffc"),
         // the reserved conditions, and a set bit 28
-        (&[0x00C80002], 1, "unbuilt 0000000000100000"),
-        (&[0x08C80002], 1, "unbuilt 0000000000100000"),
-        (&[0x12C80002], 1, "unbuilt 0000000000100000"),
+        (&[0x00C80002], 1, "trap 010 0000000000100000"),
+        (&[0x08C80002], 1, "trap 010 0000000000100000"),
+        (&[0x12C80002], 1, "trap 010 0000000000100000"),
+        // BA,a and an untaken BE,a run no slot
+        (
+            &[
+                0x30800002, 0x00000000, 0x22800002, 0x00000000, 0x90102007, 0x91D02010,
+            ],
+            4,
+            "exit 7",
+        ),
     ];
     for (code, steps, line) in cases {
         assert!(rt; ends_as(alloc, code, "99", steps, line, "")?, "{code:?}");
@@ -346,6 +371,160 @@ fn loads_and_stores_reach_what_is_mapped(rt: HostRuntime) -> Result<(), Fail> {
             "{code:?}"
         );
     }
+    Ok(())
+}
+
+#[test]
+fn accesses_of_every_size_meet_in_memory(rt: HostRuntime) -> Result<(), Fail> {
+    let alloc = rt.alloc();
+    // a byte is stored, and the doubleword around it is loaded: 5 in its fourth byte
+    let code = [
+        0x031FC000, 0x88102005, 0xC8286003, 0xD0586000, 0x91D02012, 0x91D02010,
+    ];
+    let accesses = "0 0 S 1 000000007f000003 - 05\n0 1 L 8 000000007f000000 0000000500000000 -\n";
+    assert!(rt;
+        runs_as(
+            alloc,
+            &code,
+            "99",
+            6,
+            "exit 21474836480",
+            "21474836480\n",
+            accesses
+        )?
+    );
+    // a doubleword of ones, 0x1234 in its second half word, its third byte and its low word
+    let code = [
+        0x031FC000, 0x88103FFF, 0xC8706000, 0x8A102234, 0xCA306002, 0xD0086002, 0xD2006004,
+        0xD4506002, 0x91D02010,
+    ];
+    let accesses =
+        "0 0 S 8 000000007f000000 - ffffffffffffffff\n0 1 S 2 000000007f000002 - 0234\n0 2 L 1 000000007f000002 02 -\n0 3 L 4 000000007f000004 ffffffff -\n0 4 L 2 000000007f000002 0234 -\n";
+    assert!(rt; runs_as(alloc, &code, "99", 9, "exit 2", "", accesses)?);
+    // of the image's bytes, those that were not stored to are as they were: a byte before the stack's top
+    let code = [0x031FC000, 0xC0306004, 0xD0586000, 0x91D02010];
+    let accesses = "0 0 S 2 000000007f000004 - 0000\n0 1 L 8 000000007f000000 0000000000000000 -\n";
+    assert!(rt; runs_as(alloc, &code, "99", 4, "exit 0", "", accesses)?);
+    Ok(())
+}
+
+#[test]
+fn atomics_are_one_access(rt: HostRuntime) -> Result<(), Fail> {
+    let alloc = rt.alloc();
+    let cases: [(&[u32], u32, &str, &str); 4] = [
+        // a CASXA that fails stores what it loaded
+        (
+            &[0x031FC000, 0x88102005, 0xD1F05004, 0x91D02010],
+            4,
+            "exit 0",
+            "0 0 A 8 000000007f000000 0000000000000000 0000000000000000\n",
+        ),
+        // one that does not fail: memory has 0, and %o0 is 7
+        (
+            &[
+                0x031FC000, 0x90102007, 0xD1F05000, 0xD2586000, 0x90100009, 0x91D02010,
+            ],
+            6,
+            "exit 7",
+            "0 0 A 8 000000007f000000 0000000000000000 0000000000000007\n0 1 L 8 000000007f000000 0000000000000007 -\n",
+        ),
+        // LDSTUB, twice
+        (
+            &[0x031FC000, 0xD0686001, 0xD0686001, 0x91D02010],
+            4,
+            "exit 255",
+            "0 0 A 1 000000007f000001 00 ff\n0 1 A 1 000000007f000001 ff ff\n",
+        ),
+        // SWAP of the low word of -1
+        (
+            &[0x031FC000, 0x90103FFF, 0xD0786004, 0xD0586000, 0x91D02010],
+            5,
+            "exit 4294967295",
+            "0 0 A 4 000000007f000004 00000000 ffffffff\n0 1 L 8 000000007f000000 00000000ffffffff -\n",
+        ),
+    ];
+    for (code, steps, line, accesses) in cases {
+        assert!(rt;
+            runs_as(alloc, code, "99", steps, line, "", accesses)?,
+            "{code:?}"
+        );
+    }
+    Ok(())
+}
+
+#[test]
+fn windows_are_spilled_and_filled(rt: HostRuntime) -> Result<(), Fail> {
+    let alloc = rt.alloc();
+    // eight times SAVE %sp, -176, %sp, eight times RESTORE
+    let mut code = Vec::from_slice(alloc, &[0x9DE3BF50; 8])?;
+    code.extend_from_slice(&[0x81E80000; 8])?;
+    code.push(0x91D02010)?;
+    let mut shelf = shelf_with(alloc, &executable(alloc, &code)?, &[])?;
+    let mut out = sink(alloc, &[])?;
+    let words = words(alloc, &["exe", "10000", "order"])?;
+    run_command(alloc, &words, &mut shelf, &mut out)?;
+    let report = format!(in alloc;
+        "rsim report 1\ncycles 81\nprocessor 0 retired 81 exit 0\noutput 0 0\n\n{COUNTS}"
+    )?;
+    assert!(rt; out.bytes() == report.as_bytes());
+    let order = shelf.file("order").unwrap_or_default();
+    let lines = order.split(|byte| *byte == b'\n').count();
+    // three lines before the accesses, 64 of these, the end, and nothing behind its line feed
+    assert_eq!(rt; lines, 69);
+    for line in [
+        "\n0 0 S 8 000000007f00ff00 - 0000000000000000\n",
+        "\n0 25 S 8 000000007f00fe98 - 0000000000000001\n",
+        "\n0 30 S 8 000000007f00fec0 - 000000007f00f701\n",
+    ] {
+        assert!(rt; contains(order, line.as_bytes()), "{line}");
+    }
+    // a RESTORE with no window to restore to fills one from the address 2,047, which is no multiple of 8
+    assert!(rt;
+        ends_as(
+            alloc,
+            &[0x81E80000],
+            "99",
+            1,
+            "trap 034 0000000000100000",
+            ""
+        )?
+    );
+    Ok(())
+}
+
+fn contains(bytes: &[u8], part: &[u8]) -> bool {
+    (0..bytes.len()).any(|start| bytes[start..].starts_with(part))
+}
+
+#[test]
+fn calls_go_deeper_than_the_windows(rt: HostRuntime) -> Result<(), Fail> {
+    let alloc = rt.alloc();
+    // f(n) is 0 for n = 0, else 2 f(n - 1) + n; so f(20) is 2^21 - 22
+    let code = [
+        0x90102014, // mov 20, %o0
+        0x40000004, // call f
+        0x01000000, // nop
+        0x91D02012, // ta 18
+        0x91D02010, // ta 16
+        0x9DE3BF50, // f: save %sp, -176, %sp
+        0x02CE0006, // brz,pt %i0, out
+        0x01000000, // nop
+        0x7FFFFFFD, // call f
+        0x90262001, // sub %i0, 1, %o0
+        0x90020008, // add %o0, %o0, %o0
+        0xB0020018, // add %o0, %i0, %i0
+        0x81CFE008, // out: return %i7 + 8
+        0x01000000, // nop
+    ];
+    let mut shelf = shelf_with(alloc, &executable(alloc, &code)?, &[])?;
+    let mut out = sink(alloc, &[])?;
+    let words = words(alloc, &["exe", "10000", "order"])?;
+    run_command(alloc, &words, &mut shelf, &mut out)?;
+    // 5 steps of the start, 9 of each of 20 calls, 5 of the last, and 15 spills and fills of 16
+    let report = format!(in alloc;
+        "rsim report 1\ncycles 670\nprocessor 0 retired 670 exit 2097130\noutput 0 8\n2097130\n\n{COUNTS}"
+    )?;
+    assert!(rt; out.bytes() == report.as_bytes());
     Ok(())
 }
 

@@ -1,6 +1,6 @@
 -- Addresses and values of accesses to memory (SPARC V9, 6.3.1 and A.9, A.27, A.29, A.57).
-use Rattle.std.specs.Prelude.{ℕ, ◌+◌, ◌*◌, ◌%◌, ◌^◌, ◌==◌, if◌then◌else◌}
-use Rattle.rsim_base.specs.Bytes.{count_of}
+use Rattle.std.specs.Prelude.{ℕ, ◌+◌, ◌%◌, ◌^◌, ◌==◌, if◌then◌else◌}
+use Rattle.rsim_base.specs.Bytes.{low_bytes}
 use Rattle.rsim_base.specs.declared.memory.Size.{Size}
 use Rattle.sparc_decode.specs.declared.instr.Op.{Op}
 use Rattle.sparc_decode.specs.declared.instr.Op.TheVariants as op
@@ -34,4 +34,4 @@ extended _ raw = raw
 -- compared, in the low bytes, else the old one
 abbrev pub swapped : ℕ → ℕ → ℕ → Size → ℕ
 swapped old compare new n =
-    if low (8 * count_of n) old == low (8 * count_of n) compare then new else old
+    if low_bytes n old == low_bytes n compare then new else old

@@ -1,9 +1,7 @@
 //! Addresses and values of accesses to memory (SPARC V9, 6.3.1).
 
-ghost use Rattle.rsim_base.specs.Bytes.{count_of};
-ghost use Rattle.std.specs.Prelude.{◌≡◌, ◌*◌};
+ghost use Rattle.std.specs.Prelude.{◌≡◌};
 ghost use Rattle.sparc_alu.specs.Accesses as access;
-ghost use Rattle.sparc_alu.specs.Numbers.{low};
 
 use crate::numbers::{
     bits_of, low_byte, low_half, low_word, signed_byte, signed_half, signed_word,
@@ -41,20 +39,9 @@ pub fn load_extend(op: Op, raw: u64) -> u64
 pub fn cas_result(old: u64, compare: u64, new: u64, n: Size) -> u64
     ensures { result ≡ access.swapped old compare new n }
 {
-    if low_bytes(old, n) == low_bytes(compare, n) {
+    if n.low(old) == n.low(compare) {
         new
     } else {
         old
-    }
-}
-
-fn low_bytes(value: u64, n: Size) -> u64
-    ensures { result ≡ low (8 * count_of n) value }
-{
-    match n {
-        Size::B1 => u64::from(low_byte(value)),
-        Size::B2 => u64::from(low_half(value)),
-        Size::B4 => u64::from(low_word(value)),
-        Size::B8 => value,
     }
 }

@@ -1,3 +1,4 @@
 pub mod Looks
 pub mod Ranges
 pub mod Tables
+pub mod Unused

@@ -1,5 +1,5 @@
 -- Every decoded instruction has its fields in range.
-use Rattle.std.specs.Prelude.{◌<◌, ℕ, ℤ, pos, Bool, true, false, ◌==◌, ◌||◌, ◌&&◌, not, nat_le, if◌then◌else◌, List, [], ◌∷◌}
+use Rattle.std.specs.Prelude.{◌<◌, ℕ, ℤ, pos, Bool, true, false, ◌==◌, ◌||◌, ◌&&◌, not, nat_le, if◌then◌else◌, List}
 use Rattle.std.specs.List.{AllByRecursion}
 use Rattle.std.proofs.Common.{arith}
 use Rattle.sparc_decode.specs.declared.instr.Instr.{Instr}
@@ -11,11 +11,10 @@ use Rattle.sparc_decode.specs.Fields as field
 use Rattle.sparc_decode.specs.Forms as form
 use Rattle.sparc_decode.specs.Instr.{Row, by_row, branch_rows, arithmetic_rows, memory_rows, branch, arithmetic, memory, instr}
 use Rattle.sparc_decode.specs.Ranges.{IsOperand, IsInRange}
-use Rattle.sparc_decode.proofs.Tables.{◌also◌}
+use Rattle.sparc_decode.proofs.Tables.{◌also◌, either_of, rows_of}
 
 either : (b : Bool) (x y : Instr) → IsInRange x → IsInRange y → IsInRange (if b then x else y)
-either true x y p q = p
-either false x y p q = q
+either = either_of IsInRange
 
 operand : (b : Bool) (z : ℤ) (r : ℕ) → r < 32 → IsOperand (if b then Imm z else Reg r)
 operand true z r h = tt
@@ -156,8 +155,7 @@ compare_and_swap o word = either (not (field.i word) && field.imm_asi word == 0x
 
 -- a table whose rows give such instructions gives no others
 by_rows : (rows : List Row) (key word : ℕ) → AllByRecursion (λ (row : Row). IsInRange (row.1 word)) rows → IsInRange (by_row rows key word)
-by_rows [] key word h = ill 0x010
-by_rows (row ∷ rows) key word h = either (row.0 == key) _ _ h.0 (by_rows rows key word h.1)
+by_rows rows key word h = rows_of IsInRange rows key word (ill 0x010) h
 
 pub branch_in_range : (word : ℕ) → IsInRange (branch word)
 unfolding branch

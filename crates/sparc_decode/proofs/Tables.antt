@@ -1,13 +1,28 @@
--- Tables in which no two rows have the same key: each row is the one that is found for its key.
-use Rattle.std.specs.Prelude.{◌≡◌, ◌≢◌, ◌<◌, ℕ, zero, suc, Bool, true, false, ◌==◌, ◌&&◌, not, List, [], ◌∷◌, length, AllPairs, slice_index_or}
+-- What the rows of a table say of the instructions that it gives, and tables in which no two rows have the same key:
+-- each row is the one that is found for its key.
+use Rattle.std.specs.Prelude.{◌≡◌, ◌≢◌, ◌<◌, ℕ, zero, suc, Bool, true, false, ◌==◌, ◌&&◌, not, if◌then◌else◌, List, [], ◌∷◌, length, AllPairs, slice_index_or}
+use Rattle.std.specs.List.{AllByRecursion}
 use Rattle.std.proofs.Common.{arith, refl}
 use Rattle.std.proofs.lemmas.Bool.Decides.{nat_tests}
+use Rattle.sparc_decode.specs.declared.instr.Instr.{Instr}
+use Rattle.sparc_decode.specs.Forms as form
 use Rattle.sparc_decode.specs.Instr.{Row, by_row}
 
 -- a fact for each row of a table, one after the other
 infixr 1 ◌also◌
 pub ◌also◌ : {A B : Type 0} → A → B → A × B
 a also b = (a, b)
+
+-- what holds of two instructions holds of the one that a test takes
+pub either_of : (P : Instr → Type 0) (b : Bool) (x y : Instr) → P x → P y → P (if b then x else y)
+either_of P true x y p q = p
+either_of P false x y p q = q
+
+-- what holds of the instructions of all rows, and of illegal_instruction, holds of the one that a table gives
+pub rows_of : (P : Instr → Type 0) (rows : List Row) (key word : ℕ) → P (form.ill 0x010) → AllByRecursion (λ (row : Row). P (row.1 word)) rows
+    → P (by_row rows key word)
+rows_of P [] key word p h = p
+rows_of P (row ∷ rows) key word p h = either_of P (row.0 == key) _ _ h.0 (rows_of P rows key word p h.1)
 
 -- no row has this key
 abbrev pub is_fresh : ℕ → List Row → Bool

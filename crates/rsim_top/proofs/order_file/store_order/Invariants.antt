@@ -1,4 +1,4 @@
-use Rattle.std.proofs.Common.{◌≤◌, ◌++◌, take, string_bytes}
+use Rattle.std.proofs.Common.{◌≤◌, ◌++◌, take}
 use Rattle.std.specs.List.{flat_map}
 use Rattle.rsim_base.specs.declared.memory.Model.TheVariants.{Sc}
 use Rattle.rsim_top.specs.OrderText.{heading, line}
@@ -10,6 +10,6 @@ abbrev pub invariant-loop-access : goal.invariant-loop-access
 invariant-loop-access g l =
     let shelf = g.S.Shelf in
     record {
-      lines : IsSoFar l.name (heading Sc 1 ++ flat_map line (take l.access-index l.order)) (shelf.holds l.fn.shelf) (shelf.holds l.shelf) (string_bytes l.piece);
+      lines : IsSoFar l.name (heading Sc 1 ++ flat_map line (take l.access-index l.order)) (shelf.holds l.fn.shelf) (shelf.holds l.shelf) l.piece.items;
       faults : shelf.faults l.fn.shelf ≤ shelf.faults l.shelf;
     }

@@ -4,5 +4,18 @@ use Rattle.rsim_top.proofs.processor.Processor.step.Goals as goal
 
 pub returns-clause-sound : goal.returns-clause-sound
 returns-clause-sound c =
-    IsSound-stepped c.args.image.now c.args.self.now record { arch = c.step-act.new.self; retired = c.args.self.now.retired + 1; order = c.perform.new.order; output = c.perform.new.output; memory = c.perform.new.memory } c.step-act.result
-    c.requires.sound c.requires.running c.step-act.ensures.step c.step-act.ensures.read refl c.in_ok-perform.ensures.order c.in_ok-perform.ensures.output c.in_ok-perform.ensures.memory
+    IsSound-stepped c.args.image.now c.args.self.now record { arch = c.step-act.new.arch; retired = c.args.self.now.retired + 1; order = c.perform.new.order; output = c.perform.new.output; memory = c.perform.new.memory }
+    c.step-act.result c.value_for-value.result c.requires.sound c.requires.running
+    (record {
+      stepped = c.step-act.ensures.step;
+      sound = c.step-act.ensures.sound;
+      aligned = c.step-act.ensures.aligned;
+      fits = c.perform.ensures.fits;
+      sized = c.step-act.ensures.sized;
+      found = c.step-act.ensures.found;
+      finds = c.value_for-value.ensures;
+      retired = refl;
+      order = c.in_ok-perform.ensures.order;
+      output = c.in_ok-perform.ensures.output;
+      stored = c.in_ok-perform.ensures.memory;
+    })

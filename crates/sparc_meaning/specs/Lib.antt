@@ -1,0 +1,10 @@
+pub mod Acts
+pub mod Arch
+pub mod Forms
+pub mod Kept
+pub mod Named
+pub mod Run
+pub mod Step
+pub mod Stepped
+pub mod Wants
+pub mod Windows

@@ -1,0 +1,117 @@
+-- A processor's run: so many steps from its start on given loaded values, the accesses that it made, and the
+-- bytes that it put.
+use Rattle.std.specs.Prelude.{ℕ, zero, suc, ◌+◌, ◌/◌, ◌%◌, Bool, true, false, not, ◌&&◌, map, if◌then◌else◌, List, [], ◌∷◌, ◌++◌, length, Option, Some, None, is_none, option_and_then, unwrap_or, slice_get, decimal}
+use Rattle.rsim_base.specs.declared.memory.Access.{Access}
+use Rattle.rsim_base.specs.declared.memory.Kind.TheVariants as kind
+use Rattle.elf64_load.specs.Image.{ImageView}
+use Rattle.sparc_meaning.specs.declared.acts.Act.{Act}
+use Rattle.sparc_meaning.specs.declared.acts.Act.TheVariants.{Nothing, Load, Store, Atomic, Fence, Out, End as Ended}
+use Rattle.sparc_meaning.specs.declared.acts.Spoken.{Spoken}
+use Rattle.sparc_meaning.specs.declared.acts.Spoken.TheVariants.{Byte, Number}
+use Rattle.sparc_meaning.specs.declared.arch.Arch.{Arch}
+use Rattle.sparc_meaning.specs.Arch.{boot, is_running}
+use Rattle.sparc_meaning.specs.Step.{step}
+use Rattle.sparc_meaning.specs.Stepped.{Stepped}
+
+-- how many fences a program has run so far, by what they order: an earlier load or store before a later
+-- load or store
+pub record Fences : Type 0 where
+  pub load_load : ℕ
+  pub store_load : ℕ
+  pub load_store : ℕ
+  pub store_store : ℕ
+
+abbrev pub no_fences : Fences
+no_fences = record { load_load = 0; store_load = 0; load_store = 0; store_store = 0 }
+
+-- with a fence of this mask, which has a bit for each
+abbrev pub fenced : ℕ → Fences → Fences
+fenced mask f = record {
+  load_load = f.load_load + mask % 2;
+  store_load = f.store_load + mask / 2 % 2;
+  load_store = f.load_store + mask / 4 % 2;
+  store_store = f.store_store + mask / 8 % 2;
+}
+
+-- an access that a program has made, and the fences before it
+pub record Made : Type 0 where
+  pub access : Access
+  pub fences : Fences
+
+-- the accesses are numbered from 0, loads, stores and atomics alike
+pub record Ran : Type 0 where
+  pub state : Arch
+  pub accesses : List Made
+  pub fences : Fences
+  pub output : List ℕ
+
+-- a byte, or a number in decimal and a line feed
+abbrev pub spoken_text : Spoken → List ℕ
+spoken_text (Byte byte) = byte ∷ []
+spoken_text (Number number) = decimal number ++ 10 ∷ []
+
+abbrev pub output_of : Act → List ℕ
+output_of (Out spoken) = spoken_text spoken
+output_of Nothing = []
+output_of (Load addr size loaded) = []
+output_of (Store addr size stored) = []
+output_of (Atomic addr size loaded stored) = []
+output_of (Fence mask) = []
+output_of Ended = []
+
+-- whether a step uses the value that it was given
+abbrev pub is_load : Act → Bool
+is_load (Load addr size loaded) = true
+is_load (Atomic addr size loaded stored) = true
+is_load Nothing = false
+is_load (Store addr size stored) = false
+is_load (Fence mask) = false
+is_load (Out spoken) = false
+is_load Ended = false
+
+-- the access of processor p with this number that a step makes; the value that its kind lacks is 0
+abbrev pub accesses_of : ℕ → ℕ → Act → List Access
+accesses_of p i (Load addr size loaded) =
+    record { node = record { 0 = p }; index = i; kind = kind.Load; addr = addr; size = size; loaded = loaded; stored = 0 } ∷ []
+accesses_of p i (Store addr size stored) =
+    record { node = record { 0 = p }; index = i; kind = kind.Store; addr = addr; size = size; loaded = 0; stored = stored } ∷ []
+accesses_of p i (Atomic addr size loaded stored) =
+    record { node = record { 0 = p }; index = i; kind = kind.Atomic; addr = addr; size = size; loaded = loaded; stored = stored } ∷ []
+accesses_of p i Nothing = []
+accesses_of p i (Fence mask) = []
+accesses_of p i (Out spoken) = []
+accesses_of p i Ended = []
+
+abbrev pub fences_after : Act → Fences → Fences
+fences_after (Fence mask) fences = fenced mask fences
+fences_after Nothing fences = fences
+fences_after (Load addr size loaded) fences = fences
+fences_after (Store addr size stored) fences = fences
+fences_after (Atomic addr size loaded stored) fences = fences
+fences_after (Out spoken) fences = fences
+fences_after Ended fences = fences
+
+abbrev pub made_after : Fences → Access → Made
+made_after fences access = record { access = access; fences = fences }
+
+-- the run with one step more
+abbrev pub after : ℕ → Ran → Stepped → Ran
+after p ran s = record {
+  state = s.state;
+  accesses = ran.accesses ++ map (made_after ran.fences) (accesses_of p (length ran.accesses) s.act);
+  fences = fences_after s.act ran.fences;
+  output = ran.output ++ output_of s.act;
+}
+
+-- One step more, with the next of the loaded values. A processor that has ended makes none, and a step that
+-- reads memory needs a value.
+abbrev pub advanced : ImageView → ℕ → List ℕ → Ran → Option Ran
+advanced image p values ran =
+    let value = slice_get values (length ran.accesses) in
+    let s = step image ran.state (unwrap_or value 0) in
+    if is_running ran.state.end && not (is_load s.act && is_none value) then Some (after p ran s) else None
+
+-- k steps of processor p of n. Access i, where it loads, takes value i.
+abbrev pub run : ImageView → ℕ → ℕ → ℕ → List ℕ → Option Ran
+run image p n zero values = Some (record { state = boot image p n; accesses = []; fences = no_fences; output = [] })
+run image p n (suc k) values = option_and_then (advanced image p values) (run image p n k values)

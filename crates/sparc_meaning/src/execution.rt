@@ -1,0 +1,273 @@
+//! The step of a processor.
+
+ghost use Rattle.std.specs.Prelude.{◌≡◌, ◌<◌, ◌≤◌, IsTrue, false};
+ghost use Rattle.sparc_decode.specs.Ranges.{IsInRange};
+ghost use Rattle.sparc_meaning.specs.Acts.{HasFound, IsAligned, IsSized};
+ghost use Rattle.sparc_meaning.specs.Arch.{IsSound, is_running};
+ghost use Rattle.sparc_meaning.specs.Step.{step as step_of};
+
+use crate::acts::Act;
+use crate::arch::{Arch, ArchPhase, bits_of};
+use crate::traps::{DIVISION_BY_ZERO, INSTRUCTION_ACCESS_EXCEPTION, MEM_ADDRESS_NOT_ALIGNED};
+use elf64_load::Image;
+use rsim_base::Size;
+use sparc_alu::{alu, branch_taken, effective};
+use sparc_decode::{Instr, Op, decode};
+
+// %o7, where CALL leaves its address.
+const O7: u8 = 15;
+
+/// One step: the instruction at pc, or one access of a spill or fill of a register window. `value` is
+/// what memory has where the step reads it (`peek`), and is used by no other step. A step that ends the
+/// processor changes `end` alone.
+pub fn step(arch: &mut Arch, image: &Image, value: u64) -> Act
+    requires sound { IsSound arch.old }
+    requires running { IsTrue (is_running arch.old.end) }
+    ensures step { record { state = arch.new; act = result } ≡ step_of image.now arch.old value }
+    ensures sound { IsSound arch.new }
+    ensures aligned { IsAligned result }
+    ensures found { HasFound value result }
+    ensures sized { IsSized result }
+{
+    arch.step_in_phase(image, value)
+}
+
+impl Arch {
+    ghost use Rattle.sparc_alu.specs.Results.{computed};
+    ghost use Rattle.sparc_meaning.specs.Arch.{with_register};
+    ghost use Rattle.sparc_meaning.specs.Forms.{first, second, total, is_taken, branch, call, jump, move_if_taken, ask, executed, kind, written};
+    ghost use Rattle.sparc_meaning.specs.Step.{of_instr};
+    ghost use Rattle.sparc_meaning.specs.Stepped.{goes_on};
+    ghost use Rattle.sparc_meaning.specs.Windows.{spills_first, fills_first, saved, restored};
+
+    // A step, by what the processor is at.
+    #[tactic(auto, unfolding(crate::specs::Step::step))]
+    fn step_in_phase(&mut self, image: &Image, value: u64) -> Act
+        requires sound { IsSound self.old }
+        ensures { record { state = self.new; act = result } ≡ step_of image.now self.old value }
+    {
+        match self.phase {
+            ArchPhase::Run => match image.fetch(self.pc) {
+                Some(word) => {
+                    let i = decode(word);
+                    self.run(&i, image, value)
+                }
+                None => self.trap(INSTRUCTION_ACCESS_EXCEPTION),
+            },
+            ArchPhase::Spill(k) => self.spill(k, image),
+            ArchPhase::Fill(k) => self.fill(k, image, value),
+        }
+    }
+
+    /// The first operand.
+    pub(crate) fn first(&self, i: &Instr) -> u64
+        requires window { self.now.cwp < 8 }
+        requires registers { IsInRange i.now }
+        ensures { result ≡ first i.now self.now }
+    {
+        self.register(i.rs1)
+    }
+
+    /// The second operand.
+    pub(crate) fn second(&self, i: &Instr) -> u64
+        requires window { self.now.cwp < 8 }
+        requires registers { IsInRange i.now }
+        ensures { result ≡ second i.now self.now }
+    {
+        self.operand(i.src2)
+    }
+
+    /// The sum of the operands.
+    pub(crate) fn total(&self, i: &Instr) -> u64
+        requires window { self.now.cwp < 8 }
+        requires registers { IsInRange i.now }
+        ensures { result ≡ total i.now self.now }
+    {
+        effective(self.first(i), self.second(i))
+    }
+
+    // Whether the instruction's condition is true.
+    fn is_taken(&self, i: &Instr) -> bool
+        requires window { self.now.cwp < 8 }
+        requires registers { IsInRange i.now }
+        ensures { result ≡ is_taken i.now self.now }
+    {
+        branch_taken(i, self.cc, self.first(i))
+    }
+
+    // An instruction, or the first step of the spill or fill that it needs.
+    #[tactic(auto, unfolding(crate::specs::Windows::spills_first, crate::specs::Windows::fills_first))]
+    fn run(&mut self, i: &Instr, image: &Image, value: u64) -> Act
+        requires sound { IsSound self.old }
+        requires registers { IsInRange i.now }
+        ensures { record { state = self.new; act = result } ≡ of_instr i.now image.now self.old value }
+    {
+        if self.spills_first(i.op) {
+            self.spill(0, image)
+        } else if self.fills_first(i.op) {
+            self.fill(0, image, value)
+        } else {
+            self.execute(i, image, value)
+        }
+    }
+
+    // An instruction that needs no spill or fill.
+    #[tactic(auto, unfolding(crate::specs::Forms::kind, crate::specs::Forms::executed, crate::specs::Windows::spills_first, crate::specs::Windows::fills_first))]
+    fn execute(&mut self, i: &Instr, image: &Image, value: u64) -> Act
+        requires sound { IsSound self.old }
+        requires registers { IsInRange i.now }
+        requires no_spill { spills_first i.now.op self.old ≡ false }
+        requires no_fill { fills_first i.now.op self.old ≡ false }
+        ensures { record { state = self.new; act = result } ≡ executed (kind i.now.op) image.now i.now self.old value }
+    {
+        match i.op {
+            Op::Trap => self.trap(i.trap),
+            Op::Bicc | Op::BPcc => self.branch(i.cond == 8, i),
+            Op::BPr => self.branch(false, i),
+            Op::Call => self.call(i),
+            Op::Jmpl => self.jump_and_link(i),
+            Op::Return => self.return_to(i),
+            Op::Movcc | Op::Movr => self.move_if_taken(i),
+            Op::Tcc => self.ask(i),
+            Op::Sethi => self.set(i.rd, bits_of(i.disp)),
+            Op::RdPc => self.set(i.rd, self.pc),
+            Op::Membar | Op::Stbar => self.go_on(Act::Fence(i.mask)),
+            Op::Flush | Op::Flushw | Op::Prefetch => self.go_on(Act::Nothing),
+            Op::Save => self.save(i),
+            Op::Restore => self.restore(i),
+            Op::Ldub | Op::Ldsb => self.load(Size::B1, image, i, value),
+            Op::Lduh | Op::Ldsh => self.load(Size::B2, image, i, value),
+            Op::Lduw | Op::Ldsw => self.load(Size::B4, image, i, value),
+            Op::Ldx => self.load(Size::B8, image, i, value),
+            Op::Stb => self.store(Size::B1, image, i),
+            Op::Sth => self.store(Size::B2, image, i),
+            Op::Stw => self.store(Size::B4, image, i),
+            Op::Stx => self.store(Size::B8, image, i),
+            Op::Ldstub => self.mark(image, i, value),
+            Op::Swap => self.swap(image, i, value),
+            Op::Casa => self.compare_and_swap(Size::B4, image, i, value),
+            Op::Casxa => self.compare_and_swap(Size::B8, image, i, value),
+            _ => self.compute(i),
+        }
+    }
+
+    // A branch. `always` says that it has no condition.
+    fn branch(&mut self, always: bool, i: &Instr) -> Act
+        requires window { self.old.cwp < 8 }
+        requires registers { IsInRange i.now }
+        ensures { record { state = self.new; act = result } ≡ branch always i.now self.old }
+    {
+        let target = effective(self.pc, bits_of(i.disp));
+        let goes = self.is_taken(i);
+        self.branch_to(always, goes, i.annul, target);
+        Act::Nothing
+    }
+
+    fn call(&mut self, i: &Instr) -> Act
+        requires window { self.old.cwp < 8 }
+        ensures { record { state = self.new; act = result } ≡ call i.now self.old }
+    {
+        let pc = self.pc;
+        self.set_register(O7, pc);
+        self.then_to(effective(pc, bits_of(i.disp)));
+        Act::Nothing
+    }
+
+    fn jump_and_link(&mut self, i: &Instr) -> Act
+        requires window { self.old.cwp < 8 }
+        requires registers { IsInRange i.now }
+        ensures { record { state = self.new; act = result } ≡ jump (total i.now self.old) (with_register i.now.rd self.old.pc self.old) self.old }
+    {
+        let target = self.total(i);
+        if target % 4 != 0 {
+            return self.trap(MEM_ADDRESS_NOT_ALIGNED);
+        }
+        self.set_register(i.rd, self.pc);
+        self.then_to(target);
+        Act::Nothing
+    }
+
+    fn return_to(&mut self, i: &Instr) -> Act
+        requires sound { IsSound self.old }
+        requires registers { IsInRange i.now }
+        requires kept { 1 ≤ self.old.canrestore }
+        ensures { record { state = self.new; act = result } ≡ jump (total i.now self.old) (restored self.old) self.old }
+    {
+        let target = self.total(i);
+        if target % 4 != 0 {
+            return self.trap(MEM_ADDRESS_NOT_ALIGNED);
+        }
+        self.restore_window();
+        self.then_to(target);
+        Act::Nothing
+    }
+
+    fn move_if_taken(&mut self, i: &Instr) -> Act
+        requires window { self.old.cwp < 8 }
+        requires registers { IsInRange i.now }
+        ensures { record { state = self.new; act = result } ≡ move_if_taken i.now self.old }
+    {
+        if self.is_taken(i) {
+            self.set_register(i.rd, self.second(i));
+        }
+        self.go_on(Act::Nothing)
+    }
+
+    // A trap instruction, if its condition is true.
+    fn ask(&mut self, i: &Instr) -> Act
+        requires window { self.old.cwp < 8 }
+        requires registers { IsInRange i.now }
+        ensures { record { state = self.new; act = result } ≡ ask i.now self.old }
+    {
+        if !self.is_taken(i) {
+            return self.go_on(Act::Nothing);
+        }
+        let number = self.total(i) % 128;
+        self.serve(number as u16)
+    }
+
+    // Sets a register.
+    fn set(&mut self, r: u8, value: u64) -> Act
+        requires window { self.old.cwp < 8 }
+        requires register { r < 32 }
+        ensures { record { state = self.new; act = result } ≡ goes_on Act.Nothing (with_register r value self.old) }
+    {
+        self.set_register(r, value);
+        self.go_on(Act::Nothing)
+    }
+
+    fn save(&mut self, i: &Instr) -> Act
+        requires sound { IsSound self.old }
+        requires registers { IsInRange i.now }
+        requires room { 1 ≤ self.old.cansave }
+        ensures { record { state = self.new; act = result } ≡ goes_on Act.Nothing (with_register i.now.rd (total i.now self.old) (saved self.old)) }
+    {
+        let total = self.total(i);
+        self.save_window();
+        self.set(i.rd, total)
+    }
+
+    fn restore(&mut self, i: &Instr) -> Act
+        requires sound { IsSound self.old }
+        requires registers { IsInRange i.now }
+        requires kept { 1 ≤ self.old.canrestore }
+        ensures { record { state = self.new; act = result } ≡ goes_on Act.Nothing (with_register i.now.rd (total i.now self.old) (restored self.old)) }
+    {
+        let total = self.total(i);
+        self.restore_window();
+        self.set(i.rd, total)
+    }
+
+    fn compute(&mut self, i: &Instr) -> Act
+        requires window { self.old.cwp < 8 }
+        requires registers { IsInRange i.now }
+        ensures { record { state = self.new; act = result } ≡ written (computed i.now.op (first i.now self.old) (second i.now self.old) self.old.cc self.old.y) i.now self.old }
+    {
+        let Ok(out) = alu(i.op, self.first(i), self.second(i), self.cc, self.y) else {
+            return self.trap(DIVISION_BY_ZERO);
+        };
+        self.cc = out.cc;
+        self.y = out.y;
+        self.set(i.rd, out.value)
+    }
+}

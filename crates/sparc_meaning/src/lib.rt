@@ -1,0 +1,29 @@
+//! The meaning of SPARC V9 programs, one instruction at a time: a processor's state, and the step from
+//! one state to the next.
+#![tactic(auto)]
+
+mod accesses;
+mod acts;
+mod arch;
+mod control;
+mod execution;
+mod laws;
+mod start;
+#[cfg(test)]
+mod tests;
+#[cfg(test)]
+mod tests_control;
+#[cfg(test)]
+mod tests_memory;
+#[cfg(test)]
+mod tests_windows;
+mod traps;
+mod wants;
+mod windows;
+
+pub use acts::{Act, Spoken, Want};
+pub use arch::{Arch, ArchPhase, End};
+pub use execution::step;
+pub use laws::{instructions_name_all, windows_are_kept};
+pub use start::boot;
+pub use wants::peek;

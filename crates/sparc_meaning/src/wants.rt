@@ -1,0 +1,132 @@
+//! What the next step reads from memory.
+
+ghost use Rattle.std.specs.Prelude.{◌≡◌, ◌<◌, ◌≤◌, ℕ, true, false};
+ghost use Rattle.sparc_decode.specs.Ranges.{IsInRange};
+ghost use Rattle.sparc_meaning.specs.Arch.{IsSound, is_running};
+ghost use Rattle.sparc_meaning.specs.Acts.{IsAlignedWant, reads};
+ghost use Rattle.sparc_meaning.specs.Step.{step};
+ghost use Rattle.sparc_meaning.specs.Wants as spec;
+ghost use Rattle.sparc_meaning.specs.Wants.{load_at, atomic_at};
+
+use crate::acts::Want;
+use crate::arch::{Arch, ArchPhase};
+use elf64_load::Image;
+use rsim_base::{Addr, Size};
+use sparc_decode::{Instr, Op, decode};
+
+/// The access by which the next step reads memory, if it makes one; a step that traps or only stores
+/// makes none.
+pub fn peek(arch: &Arch, image: &Image) -> Want
+    requires sound { IsSound arch.now }
+    ensures ended { is_running arch.now.end ≡ false → result ≡ Want.Ended }
+    ensures wants { is_running arch.now.end ≡ true → (value : ℕ) → result ≡ reads (step image.now arch.now value).act }
+    ensures aligned { IsAlignedWant result }
+{
+    if arch.end.is_running() {
+        arch.wants(image)
+    } else {
+        Want::Ended
+    }
+}
+
+// Whether a word is of a form that may read memory. Most are not, and need not be decoded for that.
+fn may_read(word: u32) -> bool
+    ensures { result ≡ spec.may_read word }
+{
+    match word >> 30 {
+        2 => matches!(word >> 19 & 0x3f, 0x39 | 0x3d),
+        3 => true,
+        _ => false,
+    }
+}
+
+// A load, where its address may be read.
+fn load(n: Size, addr: u64, image: &Image) -> Want
+    ensures value { result ≡ load_at n addr image.now }
+    ensures aligned { IsAlignedWant result }
+{
+    if addr % n.count() == 0 && image.may_read(Addr(addr), n) {
+        Want::Load(Addr(addr), n)
+    } else {
+        Want::None
+    }
+}
+
+// An atomic, where its address may be read and written.
+fn atomic(n: Size, addr: u64, image: &Image) -> Want
+    ensures value { result ≡ atomic_at n addr image.now }
+    ensures aligned { IsAlignedWant result }
+{
+    if addr % n.count() == 0 && image.may_read(Addr(addr), n) && image.may_write(Addr(addr), n) {
+        Want::Atomic(Addr(addr), n)
+    } else {
+        Want::None
+    }
+}
+
+impl Arch {
+    ghost use Rattle.sparc_meaning.specs.Forms.{kind};
+    ghost use Rattle.sparc_meaning.specs.Wants.{wanted, by_fill, by_instr, by_kind};
+
+    // What a step reads, by what the processor is at.
+    #[tactic(auto, unfolding(crate::specs::Wants::wanted))]
+    fn wants(&self, image: &Image) -> Want
+        requires sound { IsSound self.now }
+        ensures value { result ≡ wanted image.now self.now }
+        ensures aligned { IsAlignedWant result }
+    {
+        match self.phase {
+            ArchPhase::Run => match image.fetch(self.pc) {
+                Some(word) if may_read(word) => self.instr_wants(&decode(word), image),
+                _ => Want::None,
+            },
+            ArchPhase::Spill(_) => Want::None,
+            ArchPhase::Fill(k) => self.fill_wants(k, image),
+        }
+    }
+
+    // What step `k` of a fill reads.
+    fn fill_wants(&self, k: u8, image: &Image) -> Want
+        requires sound { IsSound self.now }
+        ensures value { result ≡ by_fill k image.now self.now }
+        ensures aligned { IsAlignedWant result }
+    {
+        load(Size::B8, self.fill_slot(k), image)
+    }
+
+    // What an instruction reads, or the first step of the spill or fill that it needs.
+    fn instr_wants(&self, i: &Instr, image: &Image) -> Want
+        requires sound { IsSound self.now }
+        requires registers { IsInRange i.now }
+        ensures value { result ≡ by_instr i.now image.now self.now }
+        ensures aligned { IsAlignedWant result }
+    {
+        if self.spills_first(i.op) {
+            Want::None
+        } else if self.fills_first(i.op) {
+            self.fill_wants(0, image)
+        } else {
+            self.access_wants(i, image)
+        }
+    }
+
+    #[tactic(auto, unfolding(crate::specs::Forms::kind, crate::specs::Wants::by_kind))]
+    fn access_wants(&self, i: &Instr, image: &Image) -> Want
+        requires sound { IsSound self.now }
+        requires registers { IsInRange i.now }
+        ensures value { result ≡ by_kind (kind i.now.op) image.now i.now self.now }
+        ensures aligned { IsAlignedWant result }
+    {
+        match i.op {
+            Op::Ldub | Op::Ldsb => load(Size::B1, self.total(i), image),
+            Op::Lduh | Op::Ldsh => load(Size::B2, self.total(i), image),
+            Op::Lduw | Op::Ldsw => load(Size::B4, self.total(i), image),
+            Op::Ldx => load(Size::B8, self.total(i), image),
+            Op::Ldstub => atomic(Size::B1, self.total(i), image),
+            Op::Swap => atomic(Size::B4, self.total(i), image),
+            Op::Casa => atomic(Size::B4, self.first(i), image),
+            Op::Casxa => atomic(Size::B8, self.first(i), image),
+            _ => Want::None,
+        }
+    }
+}
