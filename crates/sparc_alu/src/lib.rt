@@ -17,3 +17,9 @@ pub use laws::{conditions_have_opposites, subtraction_compares};
 
 #[cfg(test)]
 mod tests;
+#[cfg(test)]
+mod tests_accesses;
+#[cfg(test)]
+mod tests_codes;
+#[cfg(test)]
+mod tests_conditions;
