@@ -47,10 +47,6 @@ pub record IsSoFar (name so_far : List ℕ) (old now : Option Files) (piece : Li
   pub file : HasFile name done old now
   pub follows : done ++ piece ≡ so_far
 
--- a file that was made is empty
-pub IsSoFar-made : (old now : Option Files) (name : List ℕ) → Creates old name (Ok tt) now → IsSoFar name [] old now []
-IsSoFar-made old now name made = record { done = []; file = made; follows = refl }
-
 pub IsSoFar-more : (old now : Option Files) (name so_far piece more : List ℕ) → IsSoFar name so_far old now piece → IsSoFar name (so_far ++ more) old now (piece ++ more)
 IsSoFar-more old now name so_far piece more is =
     record { done = is.done; file = is.file; follows = sym (append_assoc is.done piece more) ∙ ap (λ p. p ++ more) is.follows }
@@ -77,10 +73,6 @@ part_of_whole done rest so_far more bytes follows whole = (rest ++ more, sym who
 pub HasPartOfFile-so_far : (old now : Option Files) (name so_far more bytes piece : List ℕ) → IsSoFar name so_far old now piece → so_far ++ more ≡ bytes → HasPartOfFile name bytes old now
 HasPartOfFile-so_far old now name so_far more bytes piece is whole = inr (is.done, part_of_whole is.done piece so_far more bytes is.follows whole, is.file)
 
-pub HasPartOfFile-from_create : (old new : Option Files) (name bytes : List ℕ) (fault : StoreFault) → Creates old name (Err fault) new → HasPartOfFile name bytes old new
-HasPartOfFile-from_create old new name bytes Failed left = ⊎_elim inl (λ made. inr ([], (bytes, refl), made)) left
-HasPartOfFile-from_create old new name bytes Memory left = inl left
-
 pub HasPartOfFile-from_failed : (old now new : Option Files) (name so_far more bytes piece : List ℕ) (fault : StoreFault) → IsSoFar name so_far old now piece → so_far ++ more ≡ bytes → Appends now name piece (Err fault) new → HasPartOfFile name bytes old new
 HasPartOfFile-from_failed old now new name so_far more bytes piece fault is whole left =
     ⊎_elim (λ same. rw same (HasPartOfFile-so_far old now name so_far more bytes piece is whole))
@@ -93,10 +85,6 @@ HasPartOfFile-from_failed old now new name so_far more bytes piece fault is whol
 pub HasPartOfFile-from_append : (old now new : Option Files) (name bytes piece : List ℕ) (r : Result (Unit {0}) StoreFault) → IsSoFar name bytes old now piece → Appends now name piece r new → OnErr r (HasPartOfFile name bytes old new)
 HasPartOfFile-from_append old now new name bytes piece (Ok done) is put = tt
 HasPartOfFile-from_append old now new name bytes piece (Err fault) is left = HasPartOfFile-from_failed old now new name bytes [] bytes piece fault is (append-nil bytes) left
-
-pub HasPartWritten-none : (written : Option (List ℕ)) (bytes : List ℕ) → HasPartWritten bytes written written
-HasPartWritten-none None bytes = ([], (bytes, refl), refl)
-HasPartWritten-none (Some old) bytes = ([], (bytes, refl), ap Some (sym (append-nil old)))
 
 pub HasPartWritten-from_failed : (old new : Option (List ℕ)) (bytes : List ℕ) (fault : StoreFault) → Puts old bytes (Err fault) new → HasPartWritten bytes old new
 HasPartWritten-from_failed old new bytes fault put = (take put.0 bytes, (drop put.0 bytes, sym (take-append-drop put.0 bytes)), put.1)

@@ -10,6 +10,7 @@ mod refusal;
 mod report_text;
 #[cfg(test)]
 mod tests;
+mod text;
 mod words;
 
 pub use command::{Reported, run_command};

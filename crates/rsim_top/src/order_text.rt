@@ -6,7 +6,7 @@ ghost use Rattle.rsim_base.specs.declared.memory.Model.{Model};
 ghost use Rattle.rsim_top.specs.Axioms.{loads, stores};
 ghost use Rattle.rsim_top.specs.OrderText.{kind_letter, value_text, value_or_dash, line, heading, ending};
 
-use itoa::Buffer;
+use crate::text::{push, push_byte, push_decimal};
 use rsim_base::{Access, Kind, NoMemory, Size};
 
 /// Puts what stands before the accesses of one processor under sequential consistency.
@@ -36,15 +36,6 @@ pub fn push_ending(text: &mut Vec<u8>, retired: u32) -> Result<(), NoMemory>
 {
     push(text, b"end ")?;
     push_decimal(text, retired as u64, b'\n')
-}
-
-/// Puts a number in decimal, and the byte that stands behind it.
-pub fn push_decimal(text: &mut Vec<u8>, number: u64, behind: u8) -> Result<(), NoMemory>
-    ensures { OnOk result (text.new.items ≡ text.old.items ++ decimal number ++ behind ∷ []) }
-{
-    let mut digits = Buffer::new();
-    push(text, digits.format(number).as_bytes())?;
-    push_byte(text, behind)
 }
 
 // The loaded and the stored value, with which a line ends.
@@ -79,18 +70,6 @@ fn push_hex(text: &mut Vec<u8>, size: Size, value: u64) -> Result<(), NoMemory>
     };
     let unwanted = 16 - 2 * size.count() as usize;
     push(text, &digits[unwanted..])
-}
-
-fn push(text: &mut Vec<u8>, piece: &[u8]) -> Result<(), NoMemory>
-    ensures { OnOk result (text.new.items ≡ text.old.items ++ piece.now) }
-{
-    text.extend_from_slice(piece).map_err(|_| NoMemory)
-}
-
-fn push_byte(text: &mut Vec<u8>, byte: u8) -> Result<(), NoMemory>
-    ensures { OnOk result (text.new.items ≡ text.old.items ++ byte ∷ []) }
-{
-    text.push(byte).map_err(|_| NoMemory)
 }
 
 fn letter(kind: Kind) -> &'static [u8]

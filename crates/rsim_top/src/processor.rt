@@ -1,6 +1,5 @@
 // A processor that runs one instruction after another, and keeps what it puts.
-ghost use Rattle.std.specs.Prelude.{◌≡◌, ◌+◌, ◌%◌, ◌<◌, ◌^◌, ◌++◌, ◌∷◌, [], ℕ, IfOk, OnOk, IsTrue, length};
-ghost use Rattle.rsim_base.specs.Bytes.{count_of};
+ghost use Rattle.std.specs.Prelude.{◌≡◌, ◌+◌, ◌<◌, ◌^◌, ◌++◌, ◌∷◌, [], IfOk, OnOk, IsTrue, length};
 ghost use Rattle.sparc_meaning.specs.Acts.{IsAligned};
 ghost use Rattle.sparc_meaning.specs.Arch.{is_running, IsSound as IsSoundState};
 ghost use Rattle.sparc_meaning.specs.Run.{output_of, accesses_of};
@@ -8,7 +7,7 @@ ghost use Rattle.sparc_meaning.specs.Step.{step as step_of};
 ghost use Rattle.rsim_top.specs.Memory.{FindsMemory, IsInMemory, IsStored};
 
 use crate::memory::Memory;
-use crate::order_text::push_decimal;
+use crate::text::push_decimal;
 use elf64_load::Image;
 use rsim_base::{Access, Addr, Kind, NoMemory, Node, Size};
 use sparc_meaning::{Act, Arch, Spoken, Want, boot, peek, step};

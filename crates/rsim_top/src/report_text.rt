@@ -1,9 +1,10 @@
 // The text of a report.
-ghost use Rattle.std.specs.Prelude.{◌≡◌, ◌++◌, IfOk, OnOk, Some};
+ghost use Rattle.std.specs.Prelude.{◌≡◌, IfOk, Some};
 ghost use Rattle.rsim_top.specs.Machine.{report_of};
 ghost use Rattle.rsim_top.specs.ReportText.{end_text};
 
 use crate::processor::Processor;
+use crate::text::push;
 use rsim_base::NoMemory;
 use sparc_meaning::End;
 use std::alloc::Global;
@@ -45,10 +46,4 @@ pub fn report_text(alloc: Global, processor: &Processor) -> Result<Vec<u8>, NoMe
     push(&mut text, &processor.output)?;
     push(&mut text, NO_COUNTS.as_bytes())?;
     Ok(text)
-}
-
-fn push(text: &mut Vec<u8>, bytes: &[u8]) -> Result<(), NoMemory>
-    ensures { OnOk result (text.new.items ≡ text.old.items ++ bytes.now) }
-{
-    text.extend_from_slice(bytes).map_err(|_| NoMemory)
 }

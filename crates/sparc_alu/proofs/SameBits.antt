@@ -23,8 +23,5 @@ pub low_64_of_difference : (a b borrow : ℕ) → a < 2 ^ 64 → b < 2 ^ 64 → 
     → low 64 (difference a b borrow) ≡ low 64 (low 64 a + 2 ^ 64 + 2 ^ 64 - low 64 b - borrow)
 low_64_of_difference a b borrow p q r = omega arith
 
-pub low_64_of_all : (a : ℕ) → a < 2 ^ 64 → low 64 a ≡ a
-low_64_of_all a h = omega arith
-
 pub overflow_same : (width : ℕ) (x y : ℤ) → x ≡ y → not (is_signed width x) ≡ not (is_signed width y)
 overflow_same width x y e = ap (λ z. not (is_signed width z)) e

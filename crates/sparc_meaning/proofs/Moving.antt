@@ -137,20 +137,20 @@ does_executed form.jumps image i s value = does_jump s s (form.total i s) _ (wit
 does_executed form.returns image i s value = does_jump (restored s) s (form.total i s) (restored s) (goes_restored s)
 does_executed form.moves image i s value =
     on s s _ _ (λ e. absurd cc) (either_goes (form.is_taken i s) s s _ s (with_register s s s s.cwp i.rd (form.second i s) (stays s)) (stays s))
-does_executed form.asks image i s value = either (form.is_taken i s) s s _ _ (does_service (form.total i s % 128) s) (on s s s _ (λ e. absurd cc) (stays s))
-does_executed form.sets image i s value = on s s _ _ (λ e. absurd cc) (with_register s s s s.cwp i.rd (twos_complement i.disp) (stays s))
-does_executed form.tells_pc image i s value = on s s _ _ (λ e. absurd cc) (with_register s s s s.cwp i.rd s.pc (stays s))
+does_executed form.traps_if_taken image i s value = either (form.is_taken i s) s s _ _ (does_service (form.total i s % 128) s) (on s s s _ (λ e. absurd cc) (stays s))
+does_executed form.sets_high image i s value = on s s _ _ (λ e. absurd cc) (with_register s s s s.cwp i.rd (twos_complement i.disp) (stays s))
+does_executed form.reads_pc image i s value = on s s _ _ (λ e. absurd cc) (with_register s s s s.cwp i.rd s.pc (stays s))
 does_executed form.fences image i s value = on s s s _ (λ e. absurd cc) (stays s)
-does_executed form.idles image i s value = on s s s _ (λ e. absurd cc) (stays s)
+does_executed form.does_nothing image i s value = on s s s _ (λ e. absurd cc) (stays s)
 does_executed form.saves image i s value = on (saved s) s _ _ (λ e. absurd cc) (with_register (saved s) s (saved s) (saved s).cwp i.rd (form.total i s) (goes_saved s))
 does_executed form.restores image i s value =
     on (restored s) s _ _ (λ e. absurd cc) (with_register (restored s) s (restored s) (restored s).cwp i.rd (form.total i s) (goes_restored s))
 does_executed (form.loads n) image i s value =
     does_access n (form.total i s) _ _ s (on s s _ _ (λ e. absurd cc) (with_register s s s s.cwp i.rd (extended i.op value) (stays s)))
 does_executed (form.stores n) image i s value = does_access n (form.total i s) _ _ s (on s s s _ (λ e. absurd cc) (stays s))
-does_executed form.marks image i s value = does_exchange B1 (form.total i s) 0xFF image i s value
+does_executed form.load_stores_byte image i s value = does_exchange B1 (form.total i s) 0xFF image i s value
 does_executed form.swaps image i s value = does_exchange B4 (form.total i s) _ image i s value
-does_executed (form.compares n) image i s value = does_exchange n (form.first i s) _ image i s value
+does_executed (form.compares_and_swaps n) image i s value = does_exchange n (form.first i s) _ image i s value
 does_executed form.computes image i s value = does_written _ i s
 
 -- the effect of a form on the windows is that of its kind

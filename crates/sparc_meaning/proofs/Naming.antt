@@ -193,42 +193,42 @@ record Same (o : Op) (cond a a' b b' c c' y y' : ℕ) : Type 0 where
 record Known (i : Instr) (s u : Arch) : Type 0 where
   same : Same i.op i.cond (form.first i s) (form.first i (like s u)) (form.second i s) (form.second i (like s u)) s.cc u.cc s.y u.y
   third : reads_rd i.op ≡ true → register (like s u) i.rd ≡ register s i.rd
-  argument : kind i.op ≡ form.asks → register (like s u) 8 ≡ register s 8
+  argument : kind i.op ≡ form.traps_if_taken → register (like s u) 8 ≡ register s 8
   rd : reads_rd i.op ≡ false → writes_rd i.op ≡ false → i.rd ≡ 0
 
 -- the kinds whose forms read both operands
 unfoldable totals : Kind → Bool
-totals form.asks = true
+totals form.traps_if_taken = true
 totals form.jumps = true
 totals form.returns = true
 totals form.saves = true
 totals form.restores = true
 totals (form.loads n) = true
 totals (form.stores n) = true
-totals form.marks = true
+totals form.load_stores_byte = true
 totals form.swaps = true
-totals (form.compares n) = true
+totals (form.compares_and_swaps n) = true
 totals _ = false
 
 -- those whose forms read rd
 unfoldable thirds : Kind → Bool
 thirds (form.stores n) = true
 thirds form.swaps = true
-thirds (form.compares n) = true
+thirds (form.compares_and_swaps n) = true
 thirds _ = false
 
 -- those whose forms write rd, if any register
 unfoldable puts_rd : Kind → Bool
 puts_rd form.jumps = true
 puts_rd form.moves = true
-puts_rd form.sets = true
-puts_rd form.tells_pc = true
+puts_rd form.sets_high = true
+puts_rd form.reads_pc = true
 puts_rd form.saves = true
 puts_rd form.restores = true
 puts_rd (form.loads n) = true
-puts_rd form.marks = true
+puts_rd form.load_stores_byte = true
 puts_rd form.swaps = true
-puts_rd (form.compares n) = true
+puts_rd (form.compares_and_swaps n) = true
 puts_rd form.computes = true
 puts_rd _ = false
 
@@ -280,7 +280,7 @@ third_is op.Trap rd e = cc
 third_is _ rd e = cc
 
 -- which is register 8 where the form asks for a service
-third_asks : (o : Op) (rd : ℕ) → kind o ≡ form.asks → third_of_form o rd ≡ Some 8
+third_asks : (o : Op) (rd : ℕ) → kind o ≡ form.traps_if_taken → third_of_form o rd ≡ Some 8
 unfolding third_of_form kind
 third_asks op.Trap rd e = cc
 third_asks _ rd e = cc
@@ -595,12 +595,12 @@ executed_gives form.returns image i s u value is known p =
     (plain_gives (record (control s) { pc = s.npc; npc = form.total i s; cwp = below s.cwp; cansave = s.cansave + 1; canrestore = s.canrestore - 1 }) i s u)
 executed_gives form.moves image i s u value is known p =
     move_gives _ _ _ _ i s u (is_taken_same i s u known) (known.same.second (move_reads i.op is)) (p.puts refl)
-executed_gives form.asks image i s u value is known p =
+executed_gives form.traps_if_taken image i s u value is known p =
     ask_gives _ _ _ _ (argument s) (argument (like s u)) i s u (is_taken_same i s u known) (p.total refl) (known.argument is)
-executed_gives form.sets image i s u value is known p = on_gives (control s) Nothing i.rd _ _ i s u refl (p.puts refl)
-executed_gives form.tells_pc image i s u value is known p = on_gives (control s) Nothing i.rd s.pc s.pc i s u refl (p.puts refl)
+executed_gives form.sets_high image i s u value is known p = on_gives (control s) Nothing i.rd _ _ i s u refl (p.puts refl)
+executed_gives form.reads_pc image i s u value is known p = on_gives (control s) Nothing i.rd s.pc s.pc i s u refl (p.puts refl)
 executed_gives form.fences image i s u value is known p = goes_on_gives (Fence i.mask) i s u
-executed_gives form.idles image i s u value is known p = goes_on_gives Nothing i s u
+executed_gives form.does_nothing image i s u value is known p = goes_on_gives Nothing i s u
 executed_gives form.saves image i s u value is known p =
     on_gives (record (control s) { cwp = above s.cwp; cansave = s.cansave - 1; canrestore = s.canrestore + 1 }) Nothing i.rd _ _ i s u (p.total refl) (p.puts refl)
 executed_gives form.restores image i s u value is known p =
@@ -608,11 +608,11 @@ executed_gives form.restores image i s u value is known p =
 executed_gives (form.loads n) image i s u value is known p = load_gives n _ _ value image i s u (p.total refl) (p.puts refl)
 executed_gives (form.stores n) image i s u value is known p =
     store_gives n _ _ _ _ image i s u (p.total refl) (p.third refl)
-executed_gives form.marks image i s u value is known p =
+executed_gives form.load_stores_byte image i s u value is known p =
     exchange_gives B1 _ _ 0xFF 0xFF value image i s u (p.total refl) refl (p.puts refl)
 executed_gives form.swaps image i s u value is known p =
     exchange_gives B4 _ _ _ _ value image i s u (p.total refl) (ap (low 32) (p.third refl)) (p.puts refl)
-executed_gives (form.compares n) image i s u value is known p =
+executed_gives (form.compares_and_swaps n) image i s u value is known p =
     exchange_gives n (form.first i s) (form.first i (like s u)) _ _ value image i s u (p.first refl)
     (swapped_same n i s u value (p.second refl) (p.third refl)) (p.puts refl)
 executed_gives form.computes image i s u value is known p =

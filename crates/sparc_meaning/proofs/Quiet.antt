@@ -23,9 +23,9 @@ use Rattle.sparc_meaning.specs.Windows.{spills_first, fills_first}
 -- kinds of forms that never read, and need no fill
 abbrev is_quiet : form.Kind → Bool
 is_quiet (form.loads n) = false
-is_quiet form.marks = false
+is_quiet form.load_stores_byte = false
 is_quiet form.swaps = false
-is_quiet (form.compares n) = false
+is_quiet (form.compares_and_swaps n) = false
 is_quiet form.returns = false
 is_quiet form.restores = false
 is_quiet _ = true
@@ -45,9 +45,9 @@ quiet_fills _ s e = refl
 quiet_kind : (k : form.Kind) (image : ImageView) (i : Instr) (s : Arch) → is_quiet k ≡ true → by_kind k image i s ≡ want.None
 unfolding by_kind
 quiet_kind (form.loads n) image i s e = cc
-quiet_kind form.marks image i s e = cc
+quiet_kind form.load_stores_byte image i s e = cc
 quiet_kind form.swaps image i s e = cc
-quiet_kind (form.compares n) image i s e = cc
+quiet_kind (form.compares_and_swaps n) image i s e = cc
 quiet_kind _ image i s e = refl
 
 -- nothing is read whichever way a test goes

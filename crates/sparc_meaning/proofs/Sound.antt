@@ -162,21 +162,21 @@ executed_sound form.returns image i s value running saves restores returns sound
     jump_sound (form.total i s) (restored s) s (restored_sound s running (returns refl) sound) sound
 executed_sound form.moves image i s value running saves restores returns sound =
     next_sound _ (either_state (form.is_taken i s) _ s (IsSound-with_register s.cwp i.rd (form.second i s) s sound) sound)
-executed_sound form.asks image i s value running saves restores returns sound =
+executed_sound form.traps_if_taken image i s value running saves restores returns sound =
     either (form.is_taken i s) _ _ (service_sound (form.total i s % 128) s sound) (next_sound s sound)
-executed_sound form.sets image i s value running saves restores returns sound = next_sound _ (IsSound-with_register s.cwp i.rd (twos_complement i.disp) s sound)
-executed_sound form.tells_pc image i s value running saves restores returns sound = next_sound _ (IsSound-with_register s.cwp i.rd s.pc s sound)
+executed_sound form.sets_high image i s value running saves restores returns sound = next_sound _ (IsSound-with_register s.cwp i.rd (twos_complement i.disp) s sound)
+executed_sound form.reads_pc image i s value running saves restores returns sound = next_sound _ (IsSound-with_register s.cwp i.rd s.pc s sound)
 executed_sound form.fences image i s value running saves restores returns sound = next_sound s sound
-executed_sound form.idles image i s value running saves restores returns sound = next_sound s sound
+executed_sound form.does_nothing image i s value running saves restores returns sound = next_sound s sound
 executed_sound form.saves image i s value running saves restores returns sound =
     next_sound _ (IsSound-with_register (saved s).cwp i.rd (form.total i s) (saved s) (saved_sound s running (saves refl) sound))
 executed_sound form.restores image i s value running saves restores returns sound =
     next_sound _ (IsSound-with_register (restored s).cwp i.rd (form.total i s) (restored s) (restored_sound s running (restores refl) sound))
 executed_sound (form.loads n) image i s value running saves restores returns sound = load_sound n image i s value sound
 executed_sound (form.stores n) image i s value running saves restores returns sound = accessed_sound n (form.total i s) _ _ s sound (next_sound s sound)
-executed_sound form.marks image i s value running saves restores returns sound = exchange_sound B1 (form.total i s) 0xFF image i s value sound
+executed_sound form.load_stores_byte image i s value running saves restores returns sound = exchange_sound B1 (form.total i s) 0xFF image i s value sound
 executed_sound form.swaps image i s value running saves restores returns sound = exchange_sound B4 (form.total i s) _ image i s value sound
-executed_sound (form.compares n) image i s value running saves restores returns sound = exchange_sound n (form.first i s) _ image i s value sound
+executed_sound (form.compares_and_swaps n) image i s value running saves restores returns sound = exchange_sound n (form.first i s) _ image i s value sound
 executed_sound form.computes image i s value running saves restores returns sound = written_sound _ i s sound
 
 -- ---- instructions, after the spill or fill that they need

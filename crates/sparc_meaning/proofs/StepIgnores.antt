@@ -48,9 +48,9 @@ exchange_same n addr a b image i s v w =
 executed_same : (k : form.Kind) (image : ImageView) (i : Instr) (s : Arch) (v w : ℕ) → Same (executed k image i s v) (executed k image i s w)
 unfolding executed
 executed_same (form.loads n) image i s v w = load_same n image i s v w
-executed_same form.marks image i s v w = exchange_same B1 (form.total i s) 0xFF 0xFF image i s v w
+executed_same form.load_stores_byte image i s v w = exchange_same B1 (form.total i s) 0xFF 0xFF image i s v w
 executed_same form.swaps image i s v w = let stored = low_bytes B4 (register s i.rd) in exchange_same B4 (form.total i s) stored stored image i s v w
-executed_same (form.compares n) image i s v w = exchange_same n (form.first i s) (form.kept_or_swapped n i s v) (form.kept_or_swapped n i s w) image i s v w
+executed_same (form.compares_and_swaps n) image i s v w = exchange_same n (form.first i s) (form.kept_or_swapped n i s v) (form.kept_or_swapped n i s w) image i s v w
 executed_same _ image i s v w = same _
 
 fill_same : (k : ℕ) (image : ImageView) (s : Arch) (v w : ℕ) → Same (fill k image s v) (fill k image s w)

@@ -107,23 +107,23 @@ executed_does : (k : form.Kind) (image : ImageView) (i : Instr) (s : Arch) (valu
 unfolding executed by_kind
 executed_does (form.loads n) image i s value = load_does n image i s value
 executed_does (form.stores n) image i s value = store_does n image i s value
-executed_does form.marks image i s value = exchange_does B1 (form.total i s) 0xFF image i s value (λ fits. omega arith)
+executed_does form.load_stores_byte image i s value = exchange_does B1 (form.total i s) 0xFF image i s value (λ fits. omega arith)
 executed_does form.swaps image i s value = exchange_does B4 (form.total i s) (low_bytes B4 (register s i.rd)) image i s value (λ fits. low_bytes-lt B4 (register s i.rd))
-executed_does (form.compares n) image i s value = exchange_does n (form.first i s) (form.kept_or_swapped n i s value) image i s value
+executed_does (form.compares_and_swaps n) image i s value = exchange_does n (form.first i s) (form.kept_or_swapped n i s value) image i s value
     (λ fits. swapped-lt (low_bytes n value == low_bytes n (form.second i s)) n value (low_bytes n (register s i.rd)) (low_bytes-lt n (register s i.rd)) fits)
 executed_does form.jumps image i s value = either value (form.total i s % 4 == 0) _ _ want.None (record { reads_it = refl; aligned = tt; found = tt; sized = tt }) (record { reads_it = refl; aligned = tt; found = tt; sized = tt })
 executed_does form.returns image i s value = either value (form.total i s % 4 == 0) _ _ want.None (record { reads_it = refl; aligned = tt; found = tt; sized = tt }) (record { reads_it = refl; aligned = tt; found = tt; sized = tt })
-executed_does form.asks image i s value = either value (form.is_taken i s) _ _ want.None (service_does value (form.total i s % 128) s) (record { reads_it = refl; aligned = tt; found = tt; sized = tt })
+executed_does form.traps_if_taken image i s value = either value (form.is_taken i s) _ _ want.None (service_does value (form.total i s % 128) s) (record { reads_it = refl; aligned = tt; found = tt; sized = tt })
 executed_does form.computes image i s value = written_does value _ i s
 executed_does form.traps image i s value = record { reads_it = refl; aligned = tt; found = tt; sized = tt }
 executed_does form.branches_on_codes image i s value = record { reads_it = refl; aligned = tt; found = tt; sized = tt }
 executed_does form.branches_on_register image i s value = record { reads_it = refl; aligned = tt; found = tt; sized = tt }
 executed_does form.calls image i s value = record { reads_it = refl; aligned = tt; found = tt; sized = tt }
 executed_does form.moves image i s value = record { reads_it = refl; aligned = tt; found = tt; sized = tt }
-executed_does form.sets image i s value = record { reads_it = refl; aligned = tt; found = tt; sized = tt }
-executed_does form.tells_pc image i s value = record { reads_it = refl; aligned = tt; found = tt; sized = tt }
+executed_does form.sets_high image i s value = record { reads_it = refl; aligned = tt; found = tt; sized = tt }
+executed_does form.reads_pc image i s value = record { reads_it = refl; aligned = tt; found = tt; sized = tt }
 executed_does form.fences image i s value = record { reads_it = refl; aligned = tt; found = tt; sized = tt }
-executed_does form.idles image i s value = record { reads_it = refl; aligned = tt; found = tt; sized = tt }
+executed_does form.does_nothing image i s value = record { reads_it = refl; aligned = tt; found = tt; sized = tt }
 executed_does form.saves image i s value = record { reads_it = refl; aligned = tt; found = tt; sized = tt }
 executed_does form.restores image i s value = record { reads_it = refl; aligned = tt; found = tt; sized = tt }
 

@@ -53,18 +53,18 @@ pub data Kind : Type 0 where
   jumps : Kind
   returns : Kind
   moves : Kind
-  asks : Kind
-  sets : Kind
-  tells_pc : Kind
+  traps_if_taken : Kind
+  sets_high : Kind
+  reads_pc : Kind
   fences : Kind
-  idles : Kind
+  does_nothing : Kind
   saves : Kind
   restores : Kind
   loads : Size → Kind
   stores : Size → Kind
-  marks : Kind
+  load_stores_byte : Kind
   swaps : Kind
-  compares : Size → Kind
+  compares_and_swaps : Size → Kind
   computes : Kind
 
 unfoldable pub kind : Op → Kind
@@ -77,14 +77,14 @@ kind op.Jmpl = jumps
 kind op.Return = returns
 kind op.Movcc = moves
 kind op.Movr = moves
-kind op.Tcc = asks
-kind op.Sethi = sets
-kind op.RdPc = tells_pc
+kind op.Tcc = traps_if_taken
+kind op.Sethi = sets_high
+kind op.RdPc = reads_pc
 kind op.Membar = fences
 kind op.Stbar = fences
-kind op.Flush = idles
-kind op.Flushw = idles
-kind op.Prefetch = idles
+kind op.Flush = does_nothing
+kind op.Flushw = does_nothing
+kind op.Prefetch = does_nothing
 kind op.Save = saves
 kind op.Restore = restores
 kind op.Ldub = loads B1
@@ -98,10 +98,10 @@ kind op.Stb = stores B1
 kind op.Sth = stores B2
 kind op.Stw = stores B4
 kind op.Stx = stores B8
-kind op.Ldstub = marks
+kind op.Ldstub = load_stores_byte
 kind op.Swap = swaps
-kind op.Casa = compares B4
-kind op.Casxa = compares B8
+kind op.Casa = compares_and_swaps B4
+kind op.Casxa = compares_and_swaps B8
 kind _ = computes
 
 -- ---- what each does
@@ -129,8 +129,8 @@ abbrev pub move_if_taken : Instr → Arch → Stepped
 move_if_taken i s = goes_on Nothing (if is_taken i s then with_register i.rd (second i s) s else s)
 
 -- Tcc (A.61): its number has 7 bits
-abbrev pub ask : Instr → Arch → Stepped
-ask i s = if is_taken i s then service (total i s % 128) s else goes_on Nothing s
+abbrev pub trap_if_taken : Instr → Arch → Stepped
+trap_if_taken i s = if is_taken i s then service (total i s % 128) s else goes_on Nothing s
 
 -- what arithmetic gives; a division by 0 is trap 0x028
 abbrev pub written : Result AluOut DivisionByZero → Instr → Arch → Stepped
@@ -171,23 +171,23 @@ executed jumps image i s value = jump (total i s) (with_register i.rd s.pc s) s
 -- RETURN (A.45): the target is of the old window
 executed returns image i s value = jump (total i s) (restored s) s
 executed moves image i s value = move_if_taken i s
-executed asks image i s value = ask i s
+executed traps_if_taken image i s value = trap_if_taken i s
 -- SETHI (A.48)
-executed sets image i s value = goes_on Nothing (with_register i.rd (twos_complement i.disp) s)
+executed sets_high image i s value = goes_on Nothing (with_register i.rd (twos_complement i.disp) s)
 -- RDPC (A.44)
-executed tells_pc image i s value = goes_on Nothing (with_register i.rd s.pc s)
+executed reads_pc image i s value = goes_on Nothing (with_register i.rd s.pc s)
 -- MEMBAR and STBAR (A.32, A.51)
 executed fences image i s value = goes_on (Fence i.mask) s
 -- FLUSH, FLUSHW with nothing left to spill, PREFETCH (A.20, A.21, A.42)
-executed idles image i s value = goes_on Nothing s
+executed does_nothing image i s value = goes_on Nothing s
 -- SAVE and RESTORE (A.46): the sum is of the old window, and is written in the new one
 executed saves image i s value = goes_on Nothing (with_register i.rd (total i s) (saved s))
 executed restores image i s value = goes_on Nothing (with_register i.rd (total i s) (restored s))
 executed (loads n) image i s value = load n image i s value
 executed (stores n) image i s value = store n image i s
 -- LDSTUB (A.29) stores ones, SWAP (A.57) the low word of the register
-executed marks image i s value = exchange B1 (total i s) 0xFF image i s value
+executed load_stores_byte image i s value = exchange B1 (total i s) 0xFF image i s value
 executed swaps image i s value = exchange B4 (total i s) (low_bytes B4 (register s i.rd)) image i s value
 -- CASA and CASXA (A.9) have their address in one register
-executed (compares n) image i s value = exchange n (first i s) (kept_or_swapped n i s value) image i s value
+executed (compares_and_swaps n) image i s value = exchange n (first i s) (kept_or_swapped n i s value) image i s value
 executed computes image i s value = written (computed i.op (first i s) (second i s) s.cc s.y) i s

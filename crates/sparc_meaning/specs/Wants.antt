@@ -29,9 +29,9 @@ atomic_at n addr image =
 
 unfoldable pub by_kind : form.Kind → ImageView → Instr → Arch → Want
 by_kind (form.loads n) image i s = load_at n (form.total i s) image
-by_kind form.marks image i s = atomic_at B1 (form.total i s) image
+by_kind form.load_stores_byte image i s = atomic_at B1 (form.total i s) image
 by_kind form.swaps image i s = atomic_at B4 (form.total i s) image
-by_kind (form.compares n) image i s = atomic_at n (form.first i s) image
+by_kind (form.compares_and_swaps n) image i s = atomic_at n (form.first i s) image
 by_kind _ image i s = want.None
 
 abbrev pub by_fill : ℕ → ImageView → Arch → Want

@@ -75,7 +75,7 @@ impl Arch {
     }
 
     /// LDSTUB: a byte of ones is stored.
-    pub(crate) fn mark(&mut self, image: &Image, i: &Instr, value: u64) -> Act
+    pub(crate) fn load_store_byte(&mut self, image: &Image, i: &Instr, value: u64) -> Act
         requires window { self.old.cwp < 8 }
         requires registers { IsInRange i.now }
         ensures { record { state = self.new; act = result } ≡ exchange Size.B1 (total i.now self.old) 0xFF image.now i.now self.old value }

@@ -35,7 +35,7 @@ pub fn step(arch: &mut Arch, image: &Image, value: u64) -> Act
 impl Arch {
     ghost use Rattle.sparc_alu.specs.Results.{computed};
     ghost use Rattle.sparc_meaning.specs.Arch.{with_register};
-    ghost use Rattle.sparc_meaning.specs.Forms.{first, second, total, is_taken, branch, call, jump, move_if_taken, ask, executed, kind, written};
+    ghost use Rattle.sparc_meaning.specs.Forms.{first, second, total, is_taken, branch, call, jump, move_if_taken, trap_if_taken, executed, kind, written};
     ghost use Rattle.sparc_meaning.specs.Step.{of_instr};
     ghost use Rattle.sparc_meaning.specs.Stepped.{goes_on};
     ghost use Rattle.sparc_meaning.specs.Windows.{spills_first, fills_first, saved, restored};
@@ -48,10 +48,7 @@ impl Arch {
     {
         match self.phase {
             ArchPhase::Run => match image.fetch(self.pc) {
-                Some(word) => {
-                    let i = decode(word);
-                    self.run(&i, image, value)
-                }
+                Some(word) => self.run(&decode(word), image, value),
                 None => self.trap(INSTRUCTION_ACCESS_EXCEPTION),
             },
             ArchPhase::Spill(k) => self.spill(k, image),
@@ -128,7 +125,7 @@ impl Arch {
             Op::Jmpl => self.jump_and_link(i),
             Op::Return => self.return_to(i),
             Op::Movcc | Op::Movr => self.move_if_taken(i),
-            Op::Tcc => self.ask(i),
+            Op::Tcc => self.trap_if_taken(i),
             Op::Sethi => self.set(i.rd, bits_of(i.disp)),
             Op::RdPc => self.set(i.rd, self.pc),
             Op::Membar | Op::Stbar => self.go_on(Act::Fence(i.mask)),
@@ -143,7 +140,7 @@ impl Arch {
             Op::Sth => self.store(Size::B2, image, i),
             Op::Stw => self.store(Size::B4, image, i),
             Op::Stx => self.store(Size::B8, image, i),
-            Op::Ldstub => self.mark(image, i, value),
+            Op::Ldstub => self.load_store_byte(image, i, value),
             Op::Swap => self.swap(image, i, value),
             Op::Casa => self.compare_and_swap(Size::B4, image, i, value),
             Op::Casxa => self.compare_and_swap(Size::B8, image, i, value),
@@ -214,10 +211,10 @@ impl Arch {
     }
 
     // A trap instruction, if its condition is true.
-    fn ask(&mut self, i: &Instr) -> Act
+    fn trap_if_taken(&mut self, i: &Instr) -> Act
         requires window { self.old.cwp < 8 }
         requires registers { IsInRange i.now }
-        ensures { record { state = self.new; act = result } ≡ ask i.now self.old }
+        ensures { record { state = self.new; act = result } ≡ trap_if_taken i.now self.old }
     {
         if !self.is_taken(i) {
             return self.go_on(Act::Nothing);
