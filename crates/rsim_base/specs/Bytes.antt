@@ -1,6 +1,6 @@
 -- Which bytes of memory an access touches, and the bytes of a value in memory.
 -- An address has 64 bits, and sums of addresses go round at 2^64. Numbers are big-endian.
-use Rattle.std.specs.Prelude.{◌≡◌, ℕ, ◌+◌, ◌-◌, ◌*◌, ◌/◌, ◌%◌, ◌^◌, ◌<◌}
+use Rattle.std.specs.Prelude.{◌≡◌, ℕ, ◌+◌, ◌-◌, ◌*◌, ◌/◌, ◌%◌, ◌^◌, ◌<◌, Bool, ◌||◌, nat_lt}
 use Rattle.rsim_base.specs.declared.memory.Size.{Size}
 use Rattle.rsim_base.specs.declared.memory.Size.TheVariants.{B1, B2, B4, B8}
 
@@ -30,6 +30,11 @@ gap_of a b = (b + (2 ^ 64 - a)) % 2 ^ 64
 -- some byte is in both
 abbrev pub Overlaps : ℕ → ℕ → ℕ → ℕ → Type 0
 Overlaps a n b m = (x : ℕ) × IsByteOf x a n × IsByteOf x b m
+
+-- of the n bytes from a on and the m bytes from b on, those of one start among those of the other: which is so exactly
+-- where some byte is in both
+abbrev pub starts_in : ℕ → ℕ → ℕ → ℕ → Bool
+starts_in a n b m = nat_lt (gap_of a b) n || nat_lt (gap_of b a) m
 
 -- every byte of the second is in the first
 abbrev pub Covers : ℕ → ℕ → ℕ → ℕ → Type 0

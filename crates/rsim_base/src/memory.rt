@@ -1,6 +1,7 @@
 // Memory as the processors see it: addresses, accesses, and the bytes that they touch.
 ghost use Rattle.std.specs.Prelude.{◌≡◌, ◌≢◌, ◌↔◌, ◌+◌, ◌-◌, ◌*◌, ◌/◌, ◌%◌, ◌^◌, ◌<◌, IsTrue};
-ghost use Rattle.rsim_base.specs.Bytes.{count_of, low_bytes, Overlaps, Covers, gap_of, byte_of};
+ghost use Rattle.rsim_base.specs.Accesses as accesses;
+ghost use Rattle.rsim_base.specs.Bytes.{count_of, low_bytes, Overlaps, Covers, starts_in, gap_of, byte_of};
 
 /// A node of the machine: a processor with its caches and its share of the memory.
 #[derive(Clone, Copy, Debug, PartialEq, Eq)]
@@ -78,6 +79,38 @@ impl Size {
     }
 }
 
+impl Kind {
+    /// Whether such an access loads: a load or an atomic.
+    pub fn loads(self) -> bool
+        ensures { result ≡ accesses.loads self }
+    {
+        match self {
+            Kind::Load | Kind::Atomic => true,
+            Kind::Store => false,
+        }
+    }
+
+    /// Whether such an access stores: a store or an atomic.
+    pub fn stores(self) -> bool
+        ensures { result ≡ accesses.stores self }
+    {
+        match self {
+            Kind::Store | Kind::Atomic => true,
+            Kind::Load => false,
+        }
+    }
+}
+
+impl Access {
+    /// Whether some byte is in both accesses.
+    pub fn overlaps(&self, other: &Access) -> bool
+        ensures value { result ≡ accesses.overlap self.now other.now }
+        ensures bytes { IsTrue result ↔ Overlaps self.now.addr.0 (count_of self.now.size) other.now.addr.0 (count_of other.now.size) }
+    {
+        overlap(self.addr, self.size, other.addr, other.size)
+    }
+}
+
 // How far the second address is above the first, going round at 2^64.
 fn gap(from: Addr, to: Addr) -> u64
     ensures { result ≡ gap_of from.0 to.0 }
@@ -87,7 +120,8 @@ fn gap(from: Addr, to: Addr) -> u64
 
 /// Whether some byte is in both accesses.
 pub fn overlap(a: Addr, n: Size, b: Addr, m: Size) -> bool
-    ensures { IsTrue result ↔ Overlaps a.0 (count_of n) b.0 (count_of m) }
+    ensures value { result ≡ starts_in a.0 (count_of n) b.0 (count_of m) }
+    ensures bytes { IsTrue result ↔ Overlaps a.0 (count_of n) b.0 (count_of m) }
 {
     gap(a, b) < n.count() || gap(b, a) < m.count()
 }
@@ -134,6 +168,36 @@ mod tests {
         assert!(rt; covers(Addr(8), Size::B8, Addr(12), Size::B4));
         assert!(rt; !covers(Addr(8), Size::B8, Addr(13), Size::B4));
         assert!(rt; covers(TOP, Size::B8, Addr(0), Size::B4));
+    }
+
+    #[test]
+    fn kinds_load_and_store_and_accesses_overlap(rt: HostRuntime) {
+        for (kind, loads, stores) in [
+            (Kind::Load, true, false),
+            (Kind::Store, false, true),
+            (Kind::Atomic, true, true),
+        ] {
+            assert_eq!(rt; kind.loads(), loads);
+            assert_eq!(rt; kind.stores(), stores);
+        }
+        let word = Access {
+            node: Node(0),
+            index: 0,
+            kind: Kind::Store,
+            addr: Addr(12),
+            size: Size::B4,
+            loaded: 0,
+            stored: 0,
+        };
+        let byte = |at| Access {
+            addr: Addr(at),
+            size: Size::B1,
+            ..word
+        };
+        for (at, is_in) in [(11, false), (12, true), (15, true), (16, false)] {
+            assert_eq!(rt; word.overlaps(&byte(at)), is_in, "at {at}");
+            assert_eq!(rt; byte(at).overlaps(&word), is_in, "at {at}");
+        }
     }
 
     #[test]

@@ -1,6 +1,6 @@
 use Rattle.std.proofs.Common.{arith}
 use Rattle.std.proofs.lemmas.Bool.{leb-true, le-leb, ltb-true}
-use Rattle.rsim_base.proofs.ByteSets.{Covers-from_gap, gap_of-Covers, count_of-bounds}
+use Rattle.rsim_base.specs.ByteSets.{Covers-from_gap, gap_of-Covers, count_of-bounds}
 use Rattle.rsim_base.proofs.memory.covers.Goals as goal
 
 pub returns-then-start-count : goal.returns-then-start-count
