@@ -10,7 +10,7 @@ pub moves_front : (all done left : List ℕ) (n : ℕ) → all ≡ done ++ left 
 moves_front all done left n is =
     is ∙ ap (λ l. done ++ l) (sym (take-append-drop n left)) ∙ sym (append_assoc done (take n left) (drop n left)) ∙ ap (λ l. (done ++ take n left) ++ l) (sym (take_rest left n))
 
--- a write after others leaves some first ones of all the bytes, whatever it answers
+-- a write after others leaves a prefix of all the bytes, whatever it answers
 pub Appends-part : {E : Type 0} (a b c : Option (List ℕ)) (all done left : List ℕ) (r : Result ℕ E) → all ≡ done ++ left → Appends a b done → WriteAppends b c r left → (part : ℕ) × Appends a c (take part all)
 Appends-part a b c all done left (Ok n) is grown more =
     (length done + n, subst (Appends a c) (sym (ap (take (length done + n)) is ∙ take-append-add done left n)) (Appends-trans a b c done (take n left) grown more))

@@ -1,7 +1,7 @@
 -- Counts of failures. A call that answers "failed" must have seen the count rise, so that code which
 -- only uses a shelf or a sink cannot give such an answer of its own accord.
 use Rattle.std.specs.Prelude.{◌≡◌, ℕ, ◌+◌, ◌-◌, ◌^◌, ◌≤◌, min}
-use Rattle.rsim_io.specs.Failing.{one_more}
+use Rattle.rsim_io.specs.Failures.{one_more}
 
 -- The count is greater than before, or stands at 2^64 - 1, its last value.
 abbrev pub Rose : ℕ → ℕ → Type 0

@@ -44,7 +44,7 @@ Creates old name (Err Failed) new = (new ≡ old) ⊎ (new ≡ option_map (with_
 Creates old name (Err Memory) new = new ≡ old
 
 -- What `append` leaves. Ok leaves the file with the bytes behind its old end. After a fault it has
--- grown by some first ones of the bytes, or is as before. No other file changes.
+-- grown by a prefix of the bytes, or is as before. No other file changes.
 abbrev pub Appends : Option Files → List ℕ → List ℕ → Result (Unit {0}) StoreFault → Option Files → Type 0
 Appends old name bytes (Ok _) new = new ≡ option_map (with_more name bytes) old
 Appends old name bytes (Err _) new =

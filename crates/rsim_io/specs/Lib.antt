@@ -1,5 +1,5 @@
 pub mod Entries
-pub mod Failing
+pub mod Failures
 pub mod Faults
 pub mod Files
 pub mod Memory

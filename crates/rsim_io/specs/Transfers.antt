@@ -21,7 +21,7 @@ pub record ReadsMore (before after : Option (List ℕ)) (count : ℕ) (old new :
   pub consumed : Consumes before after came
   pub at_end : count ≡ 0 → IsAtEnd after
 
--- Ok has put all the bytes behind those of the writer, and a fault some first ones of them.
+-- Ok has put all the bytes behind those of the writer, and a fault a prefix of them.
 abbrev pub WritesWhole : Option (List ℕ) → List ℕ → Result (Unit {0}) StoreFault → Option (List ℕ) → Type 0
 WritesWhole before bytes (Ok _) after = Appends before after bytes
 WritesWhole before bytes (Err _) after = (part : ℕ) × Appends before after (take part bytes)

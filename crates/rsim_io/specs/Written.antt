@@ -6,7 +6,7 @@ use Rattle.rsim_io.specs.declared.shelf.StoreFault.{StoreFault}
 abbrev pub and_then : List ℕ → List ℕ → List ℕ
 and_then bytes written = written ++ bytes
 
--- Ok has written all the bytes, and a fault some first ones of them.
+-- Ok has written all the bytes, and a fault a prefix of them.
 abbrev pub Puts : Option (List ℕ) → List ℕ → Result (Unit {0}) StoreFault → Option (List ℕ) → Type 0
 Puts old bytes (Ok _) new = new ≡ option_map (and_then bytes) old
 Puts old bytes (Err _) new = (part : ℕ) × (new ≡ option_map (and_then (take part bytes)) old)

@@ -1,6 +1,6 @@
 // Calls that are told to fail.
 ghost use Rattle.std.specs.Prelude.{◌≡◌, ◌≤◌, IsTrue};
-ghost use Rattle.rsim_io.specs.Failing.{next_fails, after_next, with_fault};
+ghost use Rattle.rsim_io.specs.Failures.{next_fails, after_next, with_fault};
 ghost use Rattle.rsim_io.specs.Faults.{HasCause, Rose};
 
 use std::marker::Model;
@@ -14,9 +14,9 @@ pub struct Failures {
 }
 
 impl Model for Failures {
-    ghost use Rattle.rsim_io.specs.Failing.{Failing};
+    ghost use Rattle.rsim_io.specs.Failures.{FailuresView};
 
-    ghost Value = { Failing };
+    ghost Value = { FailuresView };
 
     ghost view = { λ f. record { fails = f.fails.items; calls = f.calls; faults = f.faults } };
 }
@@ -32,8 +32,8 @@ impl Failures {
         }
     }
 
-    // Counts a call. If it is one that is to fail, it has failed.
-    pub fn next_fails(&mut self) -> bool
+    // Counts a call, and says whether it is one that is to fail. Then it has failed.
+    pub fn count_call(&mut self) -> bool
         ensures fails { result ≡ next_fails self.old }
         ensures after { self.new ≡ after_next self.old }
         ensures cause { HasCause (IsTrue result) self.old.faults self.new.faults }

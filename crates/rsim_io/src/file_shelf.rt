@@ -1,6 +1,6 @@
 // The files of the system.
 ghost use Rattle.std.specs.Prelude.{◌≡◌, ◌≢◌, ◌-◌, ◌^◌, ◌<◌, ◌≤◌, [], IfOk, IsErrOf, None, false};
-ghost use Rattle.rsim_io.specs.Failing.{one_more};
+ghost use Rattle.rsim_io.specs.Failures.{one_more};
 ghost use Rattle.rsim_io.specs.Faults.{HasCause, Counts};
 ghost use Rattle.rsim_io.specs.Files.{Fetches, Creates, Appends};
 
@@ -113,6 +113,20 @@ mod tests {
         );
         assert_eq!(rt; start.as_slice(), b"one two".as_slice());
         assert_eq!(rt; shelf.faults, 0);
+        Ok(())
+    }
+
+    #[test]
+    fn a_file_that_has_bytes_is_emptied_when_it_is_made_again(rt: HostRuntime) -> Result<(), Fail> {
+        let mut shelf = FileShelf::new(&rt);
+        shelf.append("again", b"old bytes")?;
+        shelf.create("again")?;
+        let mut whole = Vec::new(rt.alloc());
+        assert_eq!(rt; shelf.fetch("again", &mut whole, 100), Ok(()));
+        assert_eq!(rt; whole.len(), 0);
+        shelf.append("again", b"new")?;
+        assert_eq!(rt; shelf.fetch("again", &mut whole, 100), Ok(()));
+        assert_eq!(rt; whole.as_slice(), b"new".as_slice());
         Ok(())
     }
 

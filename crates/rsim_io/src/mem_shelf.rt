@@ -1,7 +1,7 @@
 // A shelf in memory.
 ghost use Rattle.std.specs.Prelude.{◌≡◌, ◌⊎◌, ◌↔◌, ◌-◌, ◌^◌, ◌<◌, [], IfOk, OnOk, OnErr, IsErrOf, Some, None, true, false, is_some, option_copied};
 ghost use Rattle.std.specs.FinMap.{empty, get, insert};
-ghost use Rattle.rsim_io.specs.Failing.{next_fails, after_next, after_next_of};
+ghost use Rattle.rsim_io.specs.Failures.{next_fails, after_next, after_next_of};
 ghost use Rattle.rsim_io.specs.Faults.{HasCause};
 ghost use Rattle.rsim_io.specs.Files.{Fetches, Creates, Appends};
 
@@ -80,7 +80,7 @@ impl Shelf for MemShelf {
             ↔ (next_fails self.old.failing ≡ true) ⊎ (get self.old.files name.now ≡ None) }
         ensures counted { self.new.failing ≡ after_next_of (is_some (get self.old.files name.now)) self.old.failing }
     {
-        if self.failures.next_fails() {
+        if self.failures.count_call() {
             return Err(FetchFault::Failed);
         }
         let Some(file) = self.file(name) else {
@@ -100,9 +100,10 @@ impl Shelf for MemShelf {
         ensures created { Creates (Some self.old.files) name.now result (Some self.new.files) }
         ensures cause { HasCause (IsErrOf result StoreFault.Failed) self.old.failing.faults self.new.failing.faults }
         ensures fails { IsErrOf result StoreFault.Failed ↔ next_fails self.old.failing ≡ true }
+        ensures unchanged { IsErrOf result StoreFault.Failed → self.new.files ≡ self.old.files }
         ensures counted { self.new.failing ≡ after_next self.old.failing }
     {
-        if self.failures.next_fails() {
+        if self.failures.count_call() {
             return Err(StoreFault::Failed);
         }
         self.set(name, &[]).map_err(|_| StoreFault::Memory)
@@ -112,9 +113,10 @@ impl Shelf for MemShelf {
         ensures appended { Appends (Some self.old.files) name.now bytes.now result (Some self.new.files) }
         ensures cause { HasCause (IsErrOf result StoreFault.Failed) self.old.failing.faults self.new.failing.faults }
         ensures fails { IsErrOf result StoreFault.Failed ↔ next_fails self.old.failing ≡ true }
+        ensures unchanged { IsErrOf result StoreFault.Failed → self.new.files ≡ self.old.files }
         ensures counted { self.new.failing ≡ after_next self.old.failing }
     {
-        if self.failures.next_fails() {
+        if self.failures.count_call() {
             return Err(StoreFault::Failed);
         }
         match self.files.get_mut(name) {

@@ -1,6 +1,6 @@
 // A sink in memory.
 ghost use Rattle.std.specs.Prelude.{◌≡◌, ◌↔◌, [], IfOk, IsErrOf, Some, true, false};
-ghost use Rattle.rsim_io.specs.Failing.{next_fails, after_next};
+ghost use Rattle.rsim_io.specs.Failures.{next_fails, after_next};
 ghost use Rattle.rsim_io.specs.Faults.{HasCause};
 ghost use Rattle.rsim_io.specs.Written.{Puts};
 
@@ -55,9 +55,10 @@ impl Sink for MemSink {
         ensures put { Puts (Some self.old.written) bytes.now result (Some self.new.written) }
         ensures cause { HasCause (IsErrOf result StoreFault.Failed) self.old.failing.faults self.new.failing.faults }
         ensures fails { IsErrOf result StoreFault.Failed ↔ next_fails self.old.failing ≡ true }
+        ensures unchanged { IsErrOf result StoreFault.Failed → self.new.written ≡ self.old.written }
         ensures counted { self.new.failing ≡ after_next self.old.failing }
     {
-        if self.failures.next_fails() {
+        if self.failures.count_call() {
             return Err(StoreFault::Failed);
         }
         self.bytes

@@ -70,7 +70,7 @@ pub trait Shelf {
     /// Puts the bytes behind the end of the file. A name that is not held counts as an empty file.
     ///
     /// # Errors
-    /// `Failed` and `Memory`. The file has then grown by some first ones of the bytes.
+    /// `Failed` and `Memory`. The file has then grown by a prefix of the bytes.
     fn append(&mut self, name: &str, bytes: &[u8]) -> Result<(), StoreFault>
         ensures appended { Appends (holds self.old) name.now bytes.now result (holds self.new) }
         ensures cause { HasCause (IsErrOf result StoreFault.Failed) (faults self.old) (faults self.new) }

@@ -19,7 +19,7 @@ pub trait Sink {
     /// Writes the bytes.
     ///
     /// # Errors
-    /// `Failed` and `Memory`. Some first ones of the bytes are then written.
+    /// `Failed` and `Memory`. A prefix of the bytes is then written.
     fn put(&mut self, bytes: &[u8]) -> Result<(), StoreFault>
         ensures put { Puts (written self.old) bytes.now result (written self.new) }
         ensures cause { HasCause (IsErrOf result StoreFault.Failed) (faults self.old) (faults self.new) }

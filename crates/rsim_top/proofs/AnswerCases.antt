@@ -7,7 +7,7 @@ use Rattle.rsim_top.specs.declared.processor.Processor.{Processor}
 use Rattle.rsim_top.specs.declared.refusal.File.TheVariants.{Exe, Order, Report}
 use Rattle.rsim_top.specs.declared.refusal.Refusal.{Refusal}
 use Rattle.rsim_top.specs.declared.refusal.Refusal.TheVariants.{Words, Read, Big, Elf, Write, Memory}
-use Rattle.rsim_top.specs.Answers.{Outside, Answers, AnswersAsked, AskedRun, IsExecutable, HasFile, HasPartOfFile, HasWritten, HasPartWritten, StopsAtOrder, StopsAtReport}
+use Rattle.rsim_top.specs.Answers.{Outside, Answers, AnswersAsked, AskedRun, IsExecutable, HasFile, HasPrefixOfFile, HasWritten, HasPrefixWritten, StopsAtOrder, StopsAtReport}
 use Rattle.rsim_top.specs.Machine.{order_of, report_of}
 use Rattle.rsim_top.specs.Parts.{HasRunFile, FailsToOrder, FailsToReport}
 use Rattle.rsim_top.specs.Words.{Asked, asked}
@@ -41,14 +41,14 @@ asked_run old want file p executable run = record {
 -- the order was not written whole
 pub Answers-at_order : (words : List (List ℕ)) (want : Asked) (old new : Outside) (file : List ℕ) (p : Processor) (mid : Option Files) (mid_faults : ℕ) (why : Refusal) →
     asked words ≡ Ok want → IsExecutable old.files want.exe file → HasRunFile file want.cycles p → mid ≡ old.files → old.shelf_faults ≤ mid_faults →
-    HasPartOfFile want.order (order_of p.order.items p.retired) mid new.files → FailsToOrder mid_faults new.shelf_faults why → new.written ≡ old.written → Answers words old new (Err why)
+    HasPrefixOfFile want.order (order_of p.order.items p.retired) mid new.files → FailsToOrder mid_faults new.shelf_faults why → new.written ≡ old.written → Answers words old new (Err why)
 Answers-at_order words want old new file p mid mid_faults why good executable run same later part fails written =
     Answers-from_asked words want old new (Err why) good (by_cause why fails)
   where
     stops : StopsAtOrder old new want
     stops = record {
       made = asked_run old want file p executable run;
-      order = subst (λ files. HasPartOfFile want.order (order_of p.order.items p.retired) files new.files) same part;
+      order = subst (λ files. HasPrefixOfFile want.order (order_of p.order.items p.retired) files new.files) same part;
       report = written;
     }
 
@@ -66,7 +66,7 @@ Answers-at_order words want old new file p mid mid_faults why good executable ru
 pub Answers-at_report : (words : List (List ℕ)) (want : Asked) (old new : Outside) (file : List ℕ) (p : Processor) (mid : Option Files) (why : Refusal) →
     asked words ≡ Ok want → IsExecutable old.files want.exe file → HasRunFile file want.cycles p → mid ≡ old.files →
     HasFile want.order (order_of p.order.items p.retired) mid new.files → FailsToReport old.sink_faults new.sink_faults why →
-    HasPartWritten (report_of p.retired p.arch.end p.output.items) old.written new.written → Answers words old new (Err why)
+    HasPrefixWritten (report_of p.retired p.arch.end p.output.items) old.written new.written → Answers words old new (Err why)
 Answers-at_report words want old new file p mid why good executable run same order fails part =
     Answers-from_asked words want old new (Err why) good (by_cause why fails)
   where

@@ -4,9 +4,9 @@ use Rattle.std.proofs.lemmas.Bool.{ltb-true, ltb-false}
 use Rattle.std.proofs.lemmas.Option.{slice_get_within}
 use Rattle.rsim_base.specs.Bytes.{count_of, gap_of, IsByteOf}
 use Rattle.rsim_base.specs.declared.memory.Access.{Access}
-use Rattle.rsim_base.proofs.ByteSets.{IsByteOf-from_gap, gap_of-IsByteOf, count_of-bounds}
+use Rattle.rsim_base.specs.ByteSets.{IsByteOf-from_gap, gap_of-IsByteOf, count_of-bounds}
 use Rattle.elf64_load.specs.Image.{ImageView, byte_at}
-use Rattle.rsim_top.specs.Axioms.{loads, stores}
+use Rattle.rsim_base.specs.Accesses.{loads, stores}
 use Rattle.rsim_top.specs.Processor.{IsNumbered, last_stored}
 use Rattle.rsim_top.specs.Values.{MayRead, ExplainsByte, Explains, loaded_byte, stored_byte}
 use Rattle.rsim_top.proofs.Places.{Some-injective, slice_get-append_left, slice_get_more}

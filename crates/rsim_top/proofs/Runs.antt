@@ -6,9 +6,9 @@ use Rattle.sparc_meaning.specs.declared.acts.Act.{Act}
 use Rattle.sparc_meaning.specs.declared.acts.Act.TheVariants.{Nothing, Load, Store, Atomic, Fence, Out, End as Ended}
 use Rattle.sparc_meaning.specs.declared.arch.Arch.{Arch}
 use Rattle.sparc_meaning.specs.Arch.{is_running}
-use Rattle.sparc_meaning.specs.Run.{Ran, run, advanced, after, is_load, accesses_of}
+use Rattle.sparc_meaning.specs.Run.{Ran, run, advanced, after, uses_value, accesses_of}
 use Rattle.sparc_meaning.specs.Step.{step}
-use Rattle.sparc_meaning.proofs.StepIgnores.{step_ignores}
+use Rattle.sparc_meaning.specs.StepIgnores.{step_ignores}
 use Rattle.rsim_top.specs.Processor.{loaded_values}
 use Rattle.rsim_top.proofs.Places.{slice_get-append_left, slice_get_mapped_last, slice_get_mapped_past}
 
@@ -18,7 +18,7 @@ use Rattle.rsim_top.proofs.Places.{slice_get-append_left, slice_get_mapped_last,
 abbrev pub advanced_on : ImageView → ℕ → Option ℕ → Ran → Option Ran
 advanced_on image p found ran =
     let s = step image ran.state (unwrap_or found 0) in
-    if is_running ran.state.end && not (is_load s.act && is_none found) then Some (after p ran s) else None
+    if is_running ran.state.end && not (uses_value s.act && is_none found) then Some (after p ran s) else None
 
 chosen_again : (running load load' : Bool) (x y new : Ran) → (load ≡ false → y ≡ x) →
     (if running && not (load && true) then Some x else None) ≡ Some new → (if running && not (load' && false) then Some y else None) ≡ Some new
@@ -32,7 +32,7 @@ advanced_on_more : (image : ImageView) (p : ℕ) (found more : Option ℕ) (ran 
 advanced_on_more image p (Some v) more ran new keeps e = rw (keeps v refl) e
 advanced_on_more image p None None ran new keeps e = e
 advanced_on_more image p None (Some w) ran new keeps e =
-    chosen_again (is_running ran.state.end) (is_load (step image ran.state 0).act) (is_load (step image ran.state w).act) (after p ran (step image ran.state 0)) (after p ran (step image ran.state w)) new
+    chosen_again (is_running ran.state.end) (uses_value (step image ran.state 0).act) (uses_value (step image ran.state w).act) (after p ran (step image ran.state 0)) (after p ran (step image ran.state w)) new
     (λ quiet. ap (after p ran) (step_ignores image ran.state 0 w quiet)) e
 
 advanced_more : (image : ImageView) (p : ℕ) (vs more : List ℕ) (ran new : Ran) → advanced image p vs ran ≡ Some new → advanced image p (vs ++ more) ran ≡ Some new

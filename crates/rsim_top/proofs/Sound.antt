@@ -8,19 +8,19 @@ use Rattle.rsim_base.specs.declared.memory.Access.{Access}
 use Rattle.rsim_base.specs.declared.memory.Kind.TheVariants as kind
 use Rattle.rsim_base.specs.declared.memory.Size.{Size}
 use Rattle.rsim_base.specs.declared.memory.Size.TheVariants.{B1, B2, B4, B8}
-use Rattle.rsim_base.proofs.ByteSets.{gap_of-IsByteOf, count_of-bounds}
+use Rattle.rsim_base.specs.ByteSets.{gap_of-IsByteOf, count_of-bounds}
 use Rattle.elf64_load.specs.Image.{ImageView, byte_at}
 use Rattle.sparc_meaning.specs.declared.acts.Act.{Act}
 use Rattle.sparc_meaning.specs.declared.acts.Act.TheVariants.{Nothing, Load, Store, Atomic, Fence, Out, End as Ended}
 use Rattle.sparc_meaning.specs.declared.arch.Arch.{Arch}
 use Rattle.sparc_meaning.specs.Acts.{IsAligned, IsSized, HasFound}
 use Rattle.sparc_meaning.specs.Arch.{is_running, IsSound as IsSoundState}
-use Rattle.sparc_meaning.specs.Run.{Ran, Fences, run, after, accesses_of, output_of, made_after, is_load}
+use Rattle.sparc_meaning.specs.Run.{Ran, Fences, run, after, accesses_of, output_of, made_after, uses_value}
 use Rattle.sparc_meaning.specs.Step.{step}
-use Rattle.sparc_meaning.proofs.StepIgnores.{step_ignores}
+use Rattle.sparc_meaning.specs.StepIgnores.{step_ignores}
 use Rattle.rsim_top.specs.declared.memory.Memory.{Memory}
 use Rattle.rsim_top.specs.declared.processor.Processor.{Processor}
-use Rattle.rsim_top.specs.Axioms.{loads, stores}
+use Rattle.rsim_base.specs.Accesses.{loads, stores}
 use Rattle.rsim_top.specs.Memory.{byte_in, IsValueAt, FindsMemory, IsStored, IsInMemory}
 use Rattle.rsim_top.specs.Processor.{IsNumbered, IsSound, loaded_values, last_stored}
 use Rattle.rsim_top.specs.Values.{Explains, loaded_byte, stored_byte}
@@ -62,9 +62,9 @@ run_on image k order old new act made has_run running stepped =
 
 -- the step is that on the value which it has loaded, whatever value it was given
 stepped_on : (image : ImageView) (s new : Arch) (act : Act) (value : ℕ) → record { state = new; act = act } ≡ step image s value → HasFound value act → step image s (value_of act) ≡ record { state = new; act = act }
-stepped_on image s new act value is found = by_load (is_load act) refl
+stepped_on image s new act value is found = by_load (uses_value act) refl
   where
-    used : (act : Act) → is_load act ≡ true → HasFound value act → value_of act ≡ value
+    used : (act : Act) → uses_value act ≡ true → HasFound value act → value_of act ≡ value
     used (Load addr size loaded) loads found = found
     used (Atomic addr size loaded stored) loads found = found
     used Nothing loads found = absurd cc
@@ -73,9 +73,9 @@ stepped_on image s new act value is found = by_load (is_load act) refl
     used (Out spoken) loads found = absurd cc
     used Ended loads found = absurd cc
 
-    by_load : (loads : Bool) → is_load act ≡ loads → step image s (value_of act) ≡ record { state = new; act = act }
+    by_load : (loads : Bool) → uses_value act ≡ loads → step image s (value_of act) ≡ record { state = new; act = act }
     by_load true loads = ap (step image s) (used act loads found) ∙ sym is
-    by_load false quiet = step_ignores image s value (value_of act) (ap (λ x. is_load x.act) (sym is) ∙ quiet) ∙ sym is
+    by_load false quiet = step_ignores image s value (value_of act) (ap (λ x. uses_value x.act) (sym is) ∙ quiet) ∙ sym is
 
 -- ---- the order and memory after a step, by what it did
 

@@ -9,7 +9,7 @@ use Rattle.rsim_io.specs.Files.{Files, with_more, Creates, Appends}
 use Rattle.rsim_io.specs.Written.{Puts}
 use Rattle.rsim_io.specs.declared.shelf.StoreFault.{StoreFault}
 use Rattle.rsim_io.specs.declared.shelf.StoreFault.TheVariants.{Failed, Memory}
-use Rattle.rsim_top.specs.Answers.{IsPart, HasFile, HasPartOfFile, HasPartWritten}
+use Rattle.rsim_top.specs.Answers.{IsPrefix, HasFile, HasPrefixOfFile, HasPrefixWritten}
 
 -- the bytes of a name that was just set
 get-insert_same : (files : Files) (name bytes : List ℕ) → get (insert files name bytes) name ≡ Some bytes
@@ -67,24 +67,24 @@ HasFile-written old now new name bytes piece (Ok done) is put = subst (λ b. Has
 HasFile-written old now new name bytes piece (Err fault) is left = tt
 
 -- a part of what was to be written by now is a part of the whole
-part_of_whole : (done rest so_far more bytes : List ℕ) → done ++ rest ≡ so_far → so_far ++ more ≡ bytes → IsPart done bytes
+part_of_whole : (done rest so_far more bytes : List ℕ) → done ++ rest ≡ so_far → so_far ++ more ≡ bytes → IsPrefix done bytes
 part_of_whole done rest so_far more bytes follows whole = (rest ++ more, sym whole ∙ ap (λ s. s ++ more) (sym follows) ∙ append_assoc done rest more)
 
-pub HasPartOfFile-so_far : (old now : Option Files) (name so_far more bytes piece : List ℕ) → IsSoFar name so_far old now piece → so_far ++ more ≡ bytes → HasPartOfFile name bytes old now
-HasPartOfFile-so_far old now name so_far more bytes piece is whole = inr (is.done, part_of_whole is.done piece so_far more bytes is.follows whole, is.file)
+pub HasPrefixOfFile-so_far : (old now : Option Files) (name so_far more bytes piece : List ℕ) → IsSoFar name so_far old now piece → so_far ++ more ≡ bytes → HasPrefixOfFile name bytes old now
+HasPrefixOfFile-so_far old now name so_far more bytes piece is whole = inr (is.done, part_of_whole is.done piece so_far more bytes is.follows whole, is.file)
 
-pub HasPartOfFile-from_failed : (old now new : Option Files) (name so_far more bytes piece : List ℕ) (fault : StoreFault) → IsSoFar name so_far old now piece → so_far ++ more ≡ bytes → Appends now name piece (Err fault) new → HasPartOfFile name bytes old new
-HasPartOfFile-from_failed old now new name so_far more bytes piece fault is whole left =
-    ⊎_elim (λ same. rw same (HasPartOfFile-so_far old now name so_far more bytes piece is whole))
+pub HasPrefixOfFile-from_failed : (old now new : Option Files) (name so_far more bytes piece : List ℕ) (fault : StoreFault) → IsSoFar name so_far old now piece → so_far ++ more ≡ bytes → Appends now name piece (Err fault) new → HasPrefixOfFile name bytes old new
+HasPrefixOfFile-from_failed old now new name so_far more bytes piece fault is whole left =
+    ⊎_elim (λ same. rw same (HasPrefixOfFile-so_far old now name so_far more bytes piece is whole))
     (λ put. inr (
       is.done ++ take put.0 piece,
       part_of_whole (is.done ++ take put.0 piece) (drop put.0 piece) so_far more bytes (append_assoc is.done (take put.0 piece) (drop put.0 piece) ∙ ap (λ p. is.done ++ p) (take-append-drop put.0 piece) ∙ is.follows) whole,
       file_after old now new name so_far piece is (take put.0 piece) put.1,
     )) left
 
-pub HasPartOfFile-from_append : (old now new : Option Files) (name bytes piece : List ℕ) (r : Result (Unit {0}) StoreFault) → IsSoFar name bytes old now piece → Appends now name piece r new → OnErr r (HasPartOfFile name bytes old new)
-HasPartOfFile-from_append old now new name bytes piece (Ok done) is put = tt
-HasPartOfFile-from_append old now new name bytes piece (Err fault) is left = HasPartOfFile-from_failed old now new name bytes [] bytes piece fault is (append-nil bytes) left
+pub HasPrefixOfFile-from_append : (old now new : Option Files) (name bytes piece : List ℕ) (r : Result (Unit {0}) StoreFault) → IsSoFar name bytes old now piece → Appends now name piece r new → OnErr r (HasPrefixOfFile name bytes old new)
+HasPrefixOfFile-from_append old now new name bytes piece (Ok done) is put = tt
+HasPrefixOfFile-from_append old now new name bytes piece (Err fault) is left = HasPrefixOfFile-from_failed old now new name bytes [] bytes piece fault is (append-nil bytes) left
 
-pub HasPartWritten-from_failed : (old new : Option (List ℕ)) (bytes : List ℕ) (fault : StoreFault) → Puts old bytes (Err fault) new → HasPartWritten bytes old new
-HasPartWritten-from_failed old new bytes fault put = (take put.0 bytes, (drop put.0 bytes, sym (take-append-drop put.0 bytes)), put.1)
+pub HasPrefixWritten-from_failed : (old new : Option (List ℕ)) (bytes : List ℕ) (fault : StoreFault) → Puts old bytes (Err fault) new → HasPrefixWritten bytes old new
+HasPrefixWritten-from_failed old new bytes fault put = (take put.0 bytes, (drop put.0 bytes, sym (take-append-drop put.0 bytes)), put.1)

@@ -32,6 +32,15 @@ pub record Outside : Type 0 where
   pub written : Option (List ℕ)
   pub sink_faults : ℕ
 
+-- the outside as a shelf and a sink mean it
+abbrev pub outside : {S K : Type 0} → (S → Option Files) → (S → ℕ) → (K → Option (List ℕ)) → (K → ℕ) → S → K → Outside
+outside holds shelf_faults written sink_faults shelf sink = record {
+  files = holds shelf;
+  shelf_faults = shelf_faults shelf;
+  written = written sink;
+  sink_faults = sink_faults sink;
+}
+
 -- the files and what was written are as before
 pub record IsUntouched (old new : Outside) : Type 0 where
   pub files : new.files ≡ old.files
@@ -41,21 +50,21 @@ pub record IsUntouched (old new : Outside) : Type 0 where
 abbrev pub HasFile : List ℕ → List ℕ → Option Files → Option Files → Type 0
 HasFile name bytes old new = new ≡ option_map (λ files. insert files name bytes) old
 
--- some first ones of these bytes
-abbrev pub IsPart : List ℕ → List ℕ → Type 0
-IsPart part bytes = (rest : List ℕ) × (bytes ≡ part ++ rest)
+-- a prefix of these bytes
+abbrev pub IsPrefix : List ℕ → List ℕ → Type 0
+IsPrefix part bytes = (rest : List ℕ) × (bytes ≡ part ++ rest)
 
--- the file has some first ones of these bytes or is as before, and every other one is as before
-abbrev pub HasPartOfFile : List ℕ → List ℕ → Option Files → Option Files → Type 0
-HasPartOfFile name bytes old new = (new ≡ old) ⊎ ((part : List ℕ) × IsPart part bytes × HasFile name part old new)
+-- the file has a prefix of these bytes or is as before, and every other one is as before
+abbrev pub HasPrefixOfFile : List ℕ → List ℕ → Option Files → Option Files → Type 0
+HasPrefixOfFile name bytes old new = (new ≡ old) ⊎ ((part : List ℕ) × IsPrefix part bytes × HasFile name part old new)
 
 -- these bytes were written behind the old ones
 abbrev pub HasWritten : List ℕ → Option (List ℕ) → Option (List ℕ) → Type 0
 HasWritten bytes old new = new ≡ option_map (and_then bytes) old
 
--- some first ones of these bytes were
-abbrev pub HasPartWritten : List ℕ → Option (List ℕ) → Option (List ℕ) → Type 0
-HasPartWritten bytes old new = (part : List ℕ) × IsPart part bytes × HasWritten part old new
+-- a prefix of these bytes was
+abbrev pub HasPrefixWritten : List ℕ → Option (List ℕ) → Option (List ℕ) → Type 0
+HasPrefixWritten bytes old new = (part : List ℕ) × IsPrefix part bytes × HasWritten part old new
 
 -- ---- the executable and its run
 
@@ -100,14 +109,14 @@ pub record Succeeds (old new : Outside) (want : Asked) (reported : Reported) : T
 -- the order was not written whole, and nothing was written of the report
 pub record StopsAtOrder (old new : Outside) (want : Asked) : Type 0 where
   pub made : AskedRun old want
-  pub order : HasPartOfFile want.order (order_of made.order made.steps) old.files new.files
+  pub order : HasPrefixOfFile want.order (order_of made.order made.steps) old.files new.files
   pub report : new.written ≡ old.written
 
 -- the order is whole, and some first part of the report was written
 pub record StopsAtReport (old new : Outside) (want : Asked) : Type 0 where
   pub made : AskedRun old want
   pub order : HasFile want.order (order_of made.order made.steps) old.files new.files
-  pub report : HasPartWritten (report_of made.steps made.ran.state.end made.ran.output) old.written new.written
+  pub report : HasPrefixWritten (report_of made.steps made.ran.state.end made.ran.output) old.written new.written
 
 -- The words were good: what is answered then.
 abbrev pub AnswersAsked : Outside → Outside → Asked → Result Reported Refusal → Type 0

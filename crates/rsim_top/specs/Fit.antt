@@ -4,7 +4,7 @@ use Rattle.rsim_base.specs.declared.memory.Access.{Access}
 use Rattle.rsim_base.specs.declared.memory.Model.{Model}
 use Rattle.elf64_load.specs.Image.{ImageView}
 use Rattle.sparc_meaning.specs.Run.{Ran, run}
-use Rattle.rsim_top.specs.Axioms.{loads}
+use Rattle.rsim_base.specs.Accesses.{loads}
 use Rattle.rsim_top.specs.Order.{Respects}
 use Rattle.rsim_top.specs.Values.{Explains}
 

@@ -6,7 +6,7 @@ use Rattle.elf64_load.specs.Image.{ImageView, byte_at}
 use Rattle.sparc_meaning.specs.Arch.{is_running, IsSound as IsSoundState}
 use Rattle.sparc_meaning.specs.Run.{Ran, run}
 use Rattle.rsim_top.specs.declared.processor.Processor.{Processor}
-use Rattle.rsim_top.specs.Axioms.{stores}
+use Rattle.rsim_base.specs.Accesses.{stores}
 use Rattle.rsim_top.specs.Memory.{byte_in}
 use Rattle.rsim_top.specs.OrderText.{IsPrintable}
 use Rattle.rsim_top.specs.Values.{Explains, stored_byte}

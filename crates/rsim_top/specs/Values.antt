@@ -4,7 +4,7 @@ use Rattle.std.specs.Prelude.{◌≡◌, ◌≢◌, ◌⊎◌, ℕ, ◌<◌, ◌
 use Rattle.rsim_base.specs.Bytes.{count_of, gap_of, byte_of, IsByteOf}
 use Rattle.rsim_base.specs.declared.memory.Access.{Access}
 use Rattle.elf64_load.specs.Image.{ImageView, byte_at}
-use Rattle.rsim_top.specs.Axioms.{loads, stores}
+use Rattle.rsim_base.specs.Accesses.{loads, stores}
 
 -- what an access loaded from a byte of memory, and what it stored there
 abbrev pub loaded_byte : Access → ℕ → ℕ

@@ -28,11 +28,11 @@ pub record Asked : Type 0 where
   pub cycles : ℕ
   pub order : List ℕ
 
-abbrev pub word_at : List (List ℕ) → ℕ → List ℕ
-word_at words k = slice_index_or words k []
+abbrev pub name_at : List (List ℕ) → ℕ → List ℕ
+name_at words k = slice_index_or words k []
 
 -- what the words ask for, or the first thing that is wrong with them
 abbrev pub asked : List (List ℕ) → Result Asked WordsFault
 asked words =
-    if not (are_names words) then Err Shape else (if not (is_bound (word_at words 1)) then Err Cycles
-    else Ok (record { exe = word_at words 0; cycles = digits_value 10 (word_at words 1); order = word_at words 2 }))
+    if not (are_names words) then Err Shape else (if not (is_bound (name_at words 1)) then Err Cycles
+    else Ok (record { exe = name_at words 0; cycles = digits_value 10 (name_at words 1); order = name_at words 2 }))

@@ -1,7 +1,7 @@
 // The top call.
 ghost use Rattle.std.specs.Prelude.{◌≡◌, ◌≤◌, map, string_bytes, IfOk, IfErr, IsErrOf, OnOk, OnErr};
 ghost use Rattle.rsim_io.specs.Faults.{HasCause};
-ghost use Rattle.rsim_top.specs.Answers.{Answers, IsExact, IsExecutable, HasFile, HasPartOfFile, HasWritten, HasPartWritten};
+ghost use Rattle.rsim_top.specs.Answers.{Answers, outside, IsExact, IsExecutable, HasFile, HasPrefixOfFile, HasWritten, HasPrefixWritten};
 ghost use Rattle.rsim_top.specs.Machine.{order_of, report_of};
 ghost use Rattle.rsim_top.specs.Parts.{FailsToFetch, HasRunFile, FailsToRun, FailsToOrder, FailsToReport};
 ghost use Rattle.rsim_top.specs.Refusals.{write_refusal_of};
@@ -40,11 +40,11 @@ pub fn run_command<S: Shelf, K: Sink>(
     out: &mut K,
 ) -> Result<Reported, Refusal>
     ensures answer { Answers (map string_bytes words.now.items)
-        (record { files = S.holds shelf.old; shelf_faults = S.faults shelf.old; written = K.written out.old; sink_faults = K.faults out.old })
-        (record { files = S.holds shelf.new; shelf_faults = S.faults shelf.new; written = K.written out.new; sink_faults = K.faults out.new })
+        (outside S.holds S.faults K.written K.faults shelf.old out.old)
+        (outside S.holds S.faults K.written K.faults shelf.new out.new)
         result }
     ensures exactly { IsExact (map string_bytes words.now.items)
-        (record { files = S.holds shelf.old; shelf_faults = S.faults shelf.old; written = K.written out.old; sink_faults = K.faults out.old })
+        (outside S.holds S.faults K.written K.faults shelf.old out.old)
         result }
     ensures shelf_faults { S.faults shelf.old ≤ S.faults shelf.new }
     ensures sink_faults { K.faults out.old ≤ K.faults out.new }
@@ -60,8 +60,8 @@ fn run_words<S: Shelf, K: Sink>(
     out: &mut K,
 ) -> Result<Reported, Refusal>
     ensures answer { Answers (map string_bytes words.now.items)
-        (record { files = S.holds shelf.old; shelf_faults = S.faults shelf.old; written = K.written out.old; sink_faults = K.faults out.old })
-        (record { files = S.holds shelf.new; shelf_faults = S.faults shelf.new; written = K.written out.new; sink_faults = K.faults out.new })
+        (outside S.holds S.faults K.written K.faults shelf.old out.old)
+        (outside S.holds S.faults K.written K.faults shelf.new out.new)
         result }
     ensures shelf_faults { S.faults shelf.old ≤ S.faults shelf.new }
     ensures sink_faults { K.faults out.old ≤ K.faults out.new }
@@ -120,7 +120,7 @@ fn write_order<S: Shelf>(
     shelf: &mut S,
 ) -> Result<(), Refusal>
     ensures written { OnOk result (HasFile name.now (order_of processor.now.order.items processor.now.retired) (S.holds shelf.old) (S.holds shelf.new)) }
-    ensures part { OnErr result (HasPartOfFile name.now (order_of processor.now.order.items processor.now.retired) (S.holds shelf.old) (S.holds shelf.new)) }
+    ensures part { OnErr result (HasPrefixOfFile name.now (order_of processor.now.order.items processor.now.retired) (S.holds shelf.old) (S.holds shelf.new)) }
     ensures refused { IfErr result (FailsToOrder (S.faults shelf.old) (S.faults shelf.new)) }
     ensures faults { S.faults shelf.old ≤ S.faults shelf.new }
 {
@@ -133,7 +133,7 @@ fn write_order<S: Shelf>(
 // Writes the report of a run.
 fn write_report<K: Sink>(alloc: Global, processor: &Processor, out: &mut K) -> Result<(), Refusal>
     ensures written { OnOk result (HasWritten (report_of processor.now.retired processor.now.arch.end processor.now.output.items) (K.written out.old) (K.written out.new)) }
-    ensures part { OnErr result (HasPartWritten (report_of processor.now.retired processor.now.arch.end processor.now.output.items) (K.written out.old) (K.written out.new)) }
+    ensures part { OnErr result (HasPrefixWritten (report_of processor.now.retired processor.now.arch.end processor.now.output.items) (K.written out.old) (K.written out.new)) }
     ensures refused { IfErr result (FailsToReport (K.faults out.old) (K.faults out.new)) }
     ensures faults { K.faults out.old ≤ K.faults out.new }
 {

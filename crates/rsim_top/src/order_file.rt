@@ -1,7 +1,7 @@
 // The file of an order.
 ghost use Rattle.std.specs.Prelude.{OnOk, OnErr, IsErrOf};
 ghost use Rattle.rsim_io.specs.Faults.{HasCause};
-ghost use Rattle.rsim_top.specs.Answers.{HasFile, HasPartOfFile};
+ghost use Rattle.rsim_top.specs.Answers.{HasFile, HasPrefixOfFile};
 ghost use Rattle.rsim_top.specs.Machine.{order_of};
 
 use crate::order_text::{push_ending, push_heading, push_line};
@@ -25,7 +25,7 @@ pub fn store_order<S: Shelf>(
     shelf: &mut S,
 ) -> Result<(), StoreFault>
     ensures stored { OnOk result (HasFile name.now (order_of order.now retired) (S.holds shelf.old) (S.holds shelf.new)) }
-    ensures part { OnErr result (HasPartOfFile name.now (order_of order.now retired) (S.holds shelf.old) (S.holds shelf.new)) }
+    ensures part { OnErr result (HasPrefixOfFile name.now (order_of order.now retired) (S.holds shelf.old) (S.holds shelf.new)) }
     ensures cause { HasCause (IsErrOf result StoreFault.Failed) (S.faults shelf.old) (S.faults shelf.new) }
 {
     shelf.create(name)?;

@@ -1,9 +1,9 @@
 // The text of an order.
 ghost use Rattle.std.specs.Prelude.{◌≡◌, ◌++◌, ◌∷◌, [], OnOk, codes, decimal};
 ghost use Rattle.std.specs.List.{concat};
+ghost use Rattle.rsim_base.specs.Accesses.{loads, stores};
 ghost use Rattle.rsim_base.specs.Bytes.{count_of};
 ghost use Rattle.rsim_base.specs.declared.memory.Model.{Model};
-ghost use Rattle.rsim_top.specs.Axioms.{loads, stores};
 ghost use Rattle.rsim_top.specs.OrderText.{kind_letter, value_text, value_or_dash, line, heading, ending};
 
 use crate::text::{push, push_byte, push_decimal};
@@ -43,9 +43,9 @@ fn push_values(text: &mut Vec<u8>, access: &Access) -> Result<(), NoMemory>
     ensures { OnOk result (text.new.items ≡ text.old.items ++ concat (value_or_dash (loads access.now.kind) access.now.size access.now.loaded
         ∷ codes " " ∷ value_or_dash (stores access.now.kind) access.now.size access.now.stored ∷ codes "\n" ∷ [])) }
 {
-    push_value(text, loads(access.kind), access.size, access.loaded)?;
+    push_value(text, access.kind.loads(), access.size, access.loaded)?;
     push_byte(text, b' ')?;
-    push_value(text, stores(access.kind), access.size, access.stored)?;
+    push_value(text, access.kind.stores(), access.size, access.stored)?;
     push_byte(text, b'\n')
 }
 
@@ -80,16 +80,4 @@ fn letter(kind: Kind) -> &'static [u8]
         Kind::Store => b"S",
         Kind::Atomic => b"A",
     }
-}
-
-fn loads(kind: Kind) -> bool
-    ensures { result ≡ loads kind }
-{
-    kind != Kind::Store
-}
-
-fn stores(kind: Kind) -> bool
-    ensures { result ≡ stores kind }
-{
-    kind != Kind::Load
 }

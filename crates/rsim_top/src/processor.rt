@@ -1,16 +1,18 @@
 // A processor that runs one instruction after another, and keeps what it puts.
 ghost use Rattle.std.specs.Prelude.{◌≡◌, ◌+◌, ◌<◌, ◌^◌, ◌++◌, ◌∷◌, [], IfOk, OnOk, IsTrue, length};
+ghost use Rattle.sparc_decode.specs.Ranges.{IsInRange};
 ghost use Rattle.sparc_meaning.specs.Acts.{IsAligned};
 ghost use Rattle.sparc_meaning.specs.Arch.{is_running, IsSound as IsSoundState};
 ghost use Rattle.sparc_meaning.specs.Run.{output_of, accesses_of};
-ghost use Rattle.sparc_meaning.specs.Step.{step as step_of};
+ghost use Rattle.sparc_meaning.specs.Step.{step as step_of, instr_at as spec_instr_at};
 ghost use Rattle.rsim_top.specs.Memory.{FindsMemory, IsInMemory, IsStored};
 
 use crate::memory::Memory;
 use crate::text::push_decimal;
 use elf64_load::Image;
 use rsim_base::{Access, Addr, Kind, NoMemory, Node, Size};
-use sparc_meaning::{Act, Arch, Spoken, Want, boot, peek, step};
+use sparc_decode::Instr;
+use sparc_meaning::{Act, Arch, Spoken, Want, boot, instr_at, peek_at, step_at};
 use std::alloc::Global;
 
 /// The one processor of the machine: its state, the steps that it has retired, its accesses in their
@@ -60,8 +62,9 @@ impl Processor {
         ensures sound { OnOk result (IsSound image.now self.new) }
         ensures retired { OnOk result (self.new.retired ≡ self.old.retired + 1) }
     {
-        let value = value_for(&self.arch, image, &self.memory);
-        let act = step(&mut self.arch, image, value);
+        let i = instr_at(image, self.arch.pc);
+        let value = value_for(&self.arch, &i, image, &self.memory);
+        let act = step_at(&mut self.arch, &i, image, value);
         perform(
             act,
             image,
@@ -75,12 +78,14 @@ impl Processor {
 }
 
 // What memory has where the next step reads it.
-fn value_for(arch: &Arch, image: &Image, memory: &Memory) -> u64
+fn value_for(arch: &Arch, i: &Instr, image: &Image, memory: &Memory) -> u64
     requires sound { IsSoundState arch.now }
     requires running { IsTrue (is_running arch.now.end) }
+    requires fetched { i.now ≡ spec_instr_at image.now arch.now.pc }
+    requires registers { IsInRange i.now }
     ensures { FindsMemory image.now memory.now (step_of image.now arch.now result).act }
 {
-    match peek(arch, image) {
+    match peek_at(arch, i, image) {
         Want::Load(addr, n) | Want::Atomic(addr, n) => memory.read(image, addr.0, n),
         Want::None | Want::Ended => 0,
     }

@@ -1,8 +1,7 @@
+pub mod ByForm
+pub mod Computing
 pub mod Keeping
-pub mod Moving
-pub mod Naming
-pub mod Quiet
+pub mod Parts
 pub mod Running
 mod Sound
-pub mod StepIgnores
-pub mod StepReads
+pub mod Telling

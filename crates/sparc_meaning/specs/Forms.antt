@@ -19,7 +19,7 @@ use Rattle.sparc_alu.specs.Results.{computed}
 use Rattle.sparc_meaning.specs.declared.acts.Act.TheVariants.{Nothing, Load, Store, Atomic, Fence}
 use Rattle.sparc_meaning.specs.declared.arch.Arch.{Arch}
 use Rattle.sparc_meaning.specs.Arch.{register, with_register}
-use Rattle.sparc_meaning.specs.Stepped.{Stepped, then_to, branched, goes_on, trapped, service, accessed}
+use Rattle.sparc_meaning.specs.Stepped.{Stepped, pair_of, at, then_to, branched, goes_on, trapped, service, accessed}
 use Rattle.sparc_meaning.specs.Windows.{saved, restored}
 
 -- ---- operands
@@ -109,7 +109,7 @@ kind _ = computes
 -- A branch (A.3, A.6, A.7). `always` is that it has no condition.
 abbrev pub branch : Bool → Instr → Arch → Stepped
 branch always i s = record {
-  state = branched always (is_taken i s) i.annul (effective s.pc (twos_complement i.disp)) s;
+  state = at (branched always (is_taken i s) i.annul (effective s.pc (twos_complement i.disp)) (pair_of s)) s;
   act = Nothing;
 }
 

@@ -1,10 +1,15 @@
 pub mod Acts
+pub mod Applied
 pub mod Arch
+pub mod Computed
+pub mod Fetched
 pub mod Forms
 pub mod Kept
-pub mod Named
+pub mod Laws
 pub mod Run
 pub mod Step
+pub mod StepIgnores
+pub mod StepReads
 pub mod Stepped
 pub mod Wants
 pub mod Windows

@@ -60,14 +60,14 @@ output_of (Fence mask) = []
 output_of Ended = []
 
 -- whether a step uses the value that it was given
-abbrev pub is_load : Act → Bool
-is_load (Load addr size loaded) = true
-is_load (Atomic addr size loaded stored) = true
-is_load Nothing = false
-is_load (Store addr size stored) = false
-is_load (Fence mask) = false
-is_load (Out spoken) = false
-is_load Ended = false
+abbrev pub uses_value : Act → Bool
+uses_value (Load addr size loaded) = true
+uses_value (Atomic addr size loaded stored) = true
+uses_value Nothing = false
+uses_value (Store addr size stored) = false
+uses_value (Fence mask) = false
+uses_value (Out spoken) = false
+uses_value Ended = false
 
 -- the access of processor p with this number that a step makes; the value that its kind lacks is 0
 abbrev pub accesses_of : ℕ → ℕ → Act → List Access
@@ -109,7 +109,7 @@ abbrev pub advanced : ImageView → ℕ → List ℕ → Ran → Option Ran
 advanced image p values ran =
     let value = slice_get values (length ran.accesses) in
     let s = step image ran.state (unwrap_or value 0) in
-    if is_running ran.state.end && not (is_load s.act && is_none value) then Some (after p ran s) else None
+    if is_running ran.state.end && not (uses_value s.act && is_none value) then Some (after p ran s) else None
 
 -- k steps of processor p of n. Access i, where it loads, takes value i.
 abbrev pub run : ImageView → ℕ → ℕ → ℕ → List ℕ → Option Ran

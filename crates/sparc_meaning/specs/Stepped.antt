@@ -2,6 +2,7 @@
 use Rattle.std.specs.Prelude.{ℕ, ◌+◌, ◌%◌, ◌^◌, ◌==◌, Bool, not, ◌&&◌, if◌then◌else◌}
 use Rattle.rsim_base.specs.Bytes.{count_of}
 use Rattle.rsim_base.specs.declared.memory.Size.{Size}
+use Rattle.rsim_base.specs.declared.processor.Pair.{Pair}
 use Rattle.sparc_meaning.specs.declared.acts.Act.{Act}
 use Rattle.sparc_meaning.specs.declared.acts.Act.TheVariants.{Out, End as Ended}
 use Rattle.sparc_meaning.specs.declared.acts.Spoken.TheVariants.{Byte, Number}
@@ -16,28 +17,40 @@ pub record Stepped : Type 0 where
 
 -- ---- the next pair of pc and npc
 
+abbrev pub pair_of : Arch → Pair
+pair_of s = record { pc = s.pc; npc = s.npc }
+
+abbrev pub at : Pair → Arch → Arch
+at pair s = record s { pc = pair.pc; npc = pair.npc }
+
 -- to the next instruction
-abbrev pub next : Arch → Arch
-next s = record s { pc = s.npc; npc = (s.npc + 4) % 2 ^ 64 }
+abbrev pub straight : Pair → Pair
+straight pair = record { pc = pair.npc; npc = (pair.npc + 4) % 2 ^ 64 }
 
 -- to the delay slot, and from there to a target
-abbrev pub then_to : ℕ → Arch → Arch
-then_to target s = record s { pc = s.npc; npc = target }
+abbrev pub by_slot_to : ℕ → Pair → Pair
+by_slot_to target pair = record { pc = pair.npc; npc = target }
 
 -- past the delay slot, which is annulled
-abbrev pub past_slot : Arch → Arch
-past_slot s = record s { pc = (s.npc + 4) % 2 ^ 64; npc = (s.npc + 8) % 2 ^ 64 }
+abbrev pub past_slot : Pair → Pair
+past_slot pair = record { pc = (pair.npc + 4) % 2 ^ 64; npc = (pair.npc + 8) % 2 ^ 64 }
 
 -- to a target at once: the delay slot is annulled
-abbrev pub at_once_to : ℕ → Arch → Arch
-at_once_to target s = record s { pc = target; npc = (target + 4) % 2 ^ 64 }
+abbrev pub at_once_to : ℕ → Pair
+at_once_to target = record { pc = target; npc = (target + 4) % 2 ^ 64 }
 
 -- Where a branch leads (6.3.4). Without its annul bit it runs its slot. With it, it runs the slot exactly where
 -- it is taken and conditional.
-abbrev pub branched : Bool → Bool → Bool → ℕ → Arch → Arch
-branched always goes annul target s =
-    if goes then (if always && annul then at_once_to target s else then_to target s)
-    else (if annul then past_slot s else next s)
+abbrev pub branched : Bool → Bool → Bool → ℕ → Pair → Pair
+branched always goes annul target pair =
+    if goes then (if always && annul then at_once_to target else by_slot_to target pair)
+    else (if annul then past_slot pair else straight pair)
+
+abbrev pub next : Arch → Arch
+next s = at (straight (pair_of s)) s
+
+abbrev pub then_to : ℕ → Arch → Arch
+then_to target s = at (by_slot_to target (pair_of s)) s
 
 -- ---- steps that go on, and steps that end the processor
 

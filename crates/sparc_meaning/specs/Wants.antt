@@ -1,18 +1,17 @@
 -- What a step will read from memory, before it is made: this depends on no value.
-use Rattle.std.specs.Prelude.{ℕ, ◌%◌, ◌==◌, Bool, not, ◌&&◌, ◌||◌, if◌then◌else◌, Option, Some, None}
+use Rattle.std.specs.Prelude.{ℕ, ◌%◌, ◌==◌, Bool, not, ◌&&◌, if◌then◌else◌}
 use Rattle.rsim_base.specs.Bytes.{count_of}
 use Rattle.rsim_base.specs.declared.memory.Size.{Size}
 use Rattle.rsim_base.specs.declared.memory.Size.TheVariants.{B1, B4, B8}
-use Rattle.elf64_load.specs.Image.{ImageView, fetched, is_readable, is_writable}
+use Rattle.elf64_load.specs.Image.{ImageView, is_readable, is_writable}
 use Rattle.sparc_decode.specs.declared.instr.Instr.{Instr}
-use Rattle.sparc_decode.specs.Fields as field
-use Rattle.sparc_decode.specs.Instr.{instr}
 use Rattle.sparc_meaning.specs.declared.acts.Want.{Want}
 use Rattle.sparc_meaning.specs.declared.acts.Want.TheVariants as want
 use Rattle.sparc_meaning.specs.declared.arch.Arch.{Arch}
 use Rattle.sparc_meaning.specs.declared.arch.ArchPhase.{ArchPhase}
 use Rattle.sparc_meaning.specs.declared.arch.ArchPhase.TheVariants.{Run, Spill, Fill}
 use Rattle.sparc_meaning.specs.Forms as form
+use Rattle.sparc_meaning.specs.Step.{instr_at}
 use Rattle.sparc_meaning.specs.Windows.{spills_first, fills_first, filled, slot}
 
 -- an access where its address is a multiple of its size and may be accessed
@@ -43,16 +42,8 @@ by_instr i image s =
     else if fills_first i.op s then by_fill 0 image s
     else by_kind (form.kind i.op) image i s
 
--- whether a word is of a form that may read memory: loads and atomics, which have op 3, RESTORE and RETURN
-abbrev pub may_read : ℕ → Bool
-may_read word = field.op word == 3 || (field.op word == 2 && (field.op3 word == 0x39 || field.op3 word == 0x3D))
-
-abbrev pub by_word : Option ℕ → ImageView → Arch → Want
-by_word None image s = want.None
-by_word (Some word) image s = by_instr (instr word) image s
-
 abbrev pub by_phase : ArchPhase → ImageView → Arch → Want
-by_phase Run image s = by_word (fetched image s.pc) image s
+by_phase Run image s = by_instr (instr_at image s.pc) image s
 by_phase (Spill k) image s = want.None
 by_phase (Fill k) image s = by_fill k image s
 

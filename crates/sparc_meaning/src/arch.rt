@@ -6,6 +6,20 @@ ghost use Rattle.sparc_meaning.specs.Arch.{above as spec_above, below as spec_be
 
 use sparc_decode::Src2;
 
+/// %o0, which a service takes its argument from, and %o1.
+pub(crate) const O0: u8 = 8;
+
+pub(crate) const O1: u8 = 9;
+
+/// %o6, the stack pointer.
+pub(crate) const O6: u8 = 14;
+
+/// %o7, where CALL leaves its address.
+pub(crate) const O7: u8 = 15;
+
+/// %l0, the first of the locals and ins that are kept in memory.
+pub(crate) const L0: u8 = 16;
+
 /// How a processor stands.
 #[derive(Clone, Copy, Debug, PartialEq, Eq)]
 pub enum End {
@@ -35,9 +49,9 @@ pub struct Arch {
     /// %g0 to %g7. %g0 is read as 0.
     pub globals: [u64; 8],
     pub windowed: [u64; 128],
-    /// The condition codes register: xcc in bits 7 to 4, icc in bits 3 to 0, each N, Z, V, C (5.2.1).
+    /// The condition codes register: xcc in bits 7 to 4, icc in bits 3 to 0, each N, Z, V, C (5.1.5).
     pub cc: u8,
-    /// The register Y, of 32 bits (5.1.6).
+    /// The register Y, of 32 bits (5.1.3.2).
     pub y: u64,
     pub pc: u64,
     pub npc: u64,
@@ -85,8 +99,8 @@ pub(crate) fn below(window: u8) -> u8
     (window + 7) % 8
 }
 
-// Where a register of a window stands in `windowed`.
-fn place(window: u8, register: u8) -> usize
+/// Where a register of a window stands in `windowed`.
+pub(crate) fn place(window: u8, register: u8) -> usize
     requires window { window < 8 }
     requires windowed { 8 ≤ register }
     requires register { register < 32 }
@@ -126,7 +140,8 @@ impl Arch {
     pub(crate) fn set_register_of(&mut self, window: u8, r: u8, value: u64)
         requires window { window < 8 }
         requires register { r < 32 }
-        ensures { self.new ≡ with_register_of window r value self.old }
+        ensures value { self.new ≡ with_register_of window r value self.old }
+        ensures rest { self.new ≡ record self.old { globals = self.new.globals; windowed = self.new.windowed } }
     {
         match r {
             0 => {}

@@ -1,23 +1,70 @@
 //! The next pair of pc and npc, and what ends a processor (SPARC V9, 6.3 and section 7).
 
 ghost use Rattle.std.specs.Prelude.{◌≡◌, ◌<◌};
+ghost use Rattle.sparc_meaning.specs.Stepped as spec;
 
 use crate::acts::{Act, Spoken};
-use crate::arch::{Arch, End};
+use crate::arch::{Arch, End, O0};
 use crate::traps::TRAP_INSTRUCTION;
+use rsim_base::Pair;
 
-// %o0, which a service takes its argument from.
-const O0: u8 = 8;
+/// To the next instruction.
+pub(crate) fn straight(pair: Pair) -> Pair
+    ensures { result ≡ spec.straight pair }
+{
+    Pair {
+        pc: pair.npc,
+        npc: pair.npc.wrapping_add(4),
+    }
+}
+
+/// To the delay slot, and then the target.
+pub(crate) fn by_slot_to(target: u64, pair: Pair) -> Pair
+    ensures { result ≡ spec.by_slot_to target pair }
+{
+    Pair {
+        pc: pair.npc,
+        npc: target,
+    }
+}
+
+/// Where a branch leads. `always` says that it has no condition.
+pub(crate) fn branched(always: bool, goes: bool, annul: bool, target: u64, pair: Pair) -> Pair
+    ensures { result ≡ spec.branched always goes annul target pair }
+{
+    match (goes, annul) {
+        (true, true) if always => Pair {
+            pc: target,
+            npc: target.wrapping_add(4),
+        },
+        (true, _) => by_slot_to(target, pair),
+        (false, true) => Pair {
+            pc: pair.npc.wrapping_add(4),
+            npc: pair.npc.wrapping_add(8),
+        },
+        (false, false) => straight(pair),
+    }
+}
 
 impl Arch {
-    ghost use Rattle.sparc_meaning.specs.Stepped.{next, then_to, branched, service, trapped};
+    ghost use Rattle.sparc_meaning.specs.Stepped.{pair_of, at, next, then_to, service, trapped};
 
-    /// To the next instruction.
-    pub(crate) fn advance(&mut self)
-        ensures { self.new ≡ next self.old }
+    /// The pair of the instruction that the processor is at.
+    pub(crate) fn pair(&self) -> Pair
+        ensures { result ≡ pair_of self.now }
     {
-        self.pc = self.npc;
-        self.npc = self.npc.wrapping_add(4);
+        Pair {
+            pc: self.pc,
+            npc: self.npc,
+        }
+    }
+
+    /// To this pair.
+    pub(crate) fn go_to(&mut self, pair: Pair)
+        ensures { self.new ≡ at pair self.old }
+    {
+        self.pc = pair.pc;
+        self.npc = pair.npc;
     }
 
     /// To the next instruction, with this done beside.
@@ -25,7 +72,7 @@ impl Arch {
         ensures state { self.new ≡ next self.old }
         ensures act { result ≡ act }
     {
-        self.advance();
+        self.go_to(straight(self.pair()));
         act
     }
 
@@ -33,26 +80,7 @@ impl Arch {
     pub(crate) fn then_to(&mut self, target: u64)
         ensures { self.new ≡ then_to target self.old }
     {
-        self.pc = self.npc;
-        self.npc = target;
-    }
-
-    /// Where a branch leads. `always` says that it has no condition.
-    pub(crate) fn branch_to(&mut self, always: bool, goes: bool, annul: bool, target: u64)
-        ensures { self.new ≡ branched always goes annul target self.old }
-    {
-        match (goes, annul) {
-            (true, true) if always => {
-                self.pc = target;
-                self.npc = target.wrapping_add(4);
-            }
-            (true, _) => self.then_to(target),
-            (false, true) => {
-                self.pc = self.npc.wrapping_add(4);
-                self.npc = self.npc.wrapping_add(8);
-            }
-            (false, false) => self.advance(),
-        }
+        self.go_to(by_slot_to(target, self.pair()));
     }
 
     /// Ends the processor, and changes nothing else.

@@ -4,18 +4,17 @@ ghost use Rattle.std.specs.Prelude.{◌≡◌, ◌<◌, ◌≤◌, IsTrue, false
 ghost use Rattle.sparc_decode.specs.Ranges.{IsInRange};
 ghost use Rattle.sparc_meaning.specs.Acts.{HasFound, IsAligned, IsSized};
 ghost use Rattle.sparc_meaning.specs.Arch.{IsSound, is_running};
-ghost use Rattle.sparc_meaning.specs.Step.{step as step_of};
+ghost use Rattle.sparc_meaning.specs.Step.{step as step_of, instr_at as spec_instr_at};
 
 use crate::acts::Act;
-use crate::arch::{Arch, ArchPhase, bits_of};
-use crate::traps::{DIVISION_BY_ZERO, INSTRUCTION_ACCESS_EXCEPTION, MEM_ADDRESS_NOT_ALIGNED};
+use crate::arch::{Arch, ArchPhase, O7, bits_of};
+use crate::control::branched;
+use crate::fetching::instr_at;
+use crate::traps::{DIVISION_BY_ZERO, MEM_ADDRESS_NOT_ALIGNED};
 use elf64_load::Image;
 use rsim_base::Size;
 use sparc_alu::{alu, branch_taken, effective};
-use sparc_decode::{Instr, Op, decode};
-
-// %o7, where CALL leaves its address.
-const O7: u8 = 15;
+use sparc_decode::{Instr, Op};
 
 /// One step: the instruction at pc, or one access of a spill or fill of a register window. `value` is
 /// what memory has where the step reads it (`peek`), and is used by no other step. A step that ends the
@@ -29,7 +28,23 @@ pub fn step(arch: &mut Arch, image: &Image, value: u64) -> Act
     ensures found { HasFound value result }
     ensures sized { IsSized result }
 {
-    arch.step_in_phase(image, value)
+    let i = instr_at(image, arch.pc);
+    step_at(arch, &i, image, value)
+}
+
+/// One step, where `i` is the instruction at pc: fetched and decoded once, it serves `peek_at` and the step.
+pub fn step_at(arch: &mut Arch, i: &Instr, image: &Image, value: u64) -> Act
+    requires sound { IsSound arch.old }
+    requires running { IsTrue (is_running arch.old.end) }
+    requires fetched { i.now ≡ spec_instr_at image.now arch.old.pc }
+    requires registers { IsInRange i.now }
+    ensures step { record { state = arch.new; act = result } ≡ step_of image.now arch.old value }
+    ensures sound { IsSound arch.new }
+    ensures aligned { IsAligned result }
+    ensures found { HasFound value result }
+    ensures sized { IsSized result }
+{
+    arch.step_in_phase(i, image, value)
 }
 
 impl Arch {
@@ -42,15 +57,14 @@ impl Arch {
 
     // A step, by what the processor is at.
     #[tactic(auto, unfolding(crate::specs::Step::step))]
-    fn step_in_phase(&mut self, image: &Image, value: u64) -> Act
+    fn step_in_phase(&mut self, i: &Instr, image: &Image, value: u64) -> Act
         requires sound { IsSound self.old }
+        requires fetched { i.now ≡ spec_instr_at image.now self.old.pc }
+        requires registers { IsInRange i.now }
         ensures { record { state = self.new; act = result } ≡ step_of image.now self.old value }
     {
         match self.phase {
-            ArchPhase::Run => match image.fetch(self.pc) {
-                Some(word) => self.run(&decode(word), image, value),
-                None => self.trap(INSTRUCTION_ACCESS_EXCEPTION),
-            },
+            ArchPhase::Run => self.run(i, image, value),
             ArchPhase::Spill(k) => self.spill(k, image),
             ArchPhase::Fill(k) => self.fill(k, image, value),
         }
@@ -156,7 +170,7 @@ impl Arch {
     {
         let target = effective(self.pc, bits_of(i.disp));
         let goes = self.is_taken(i);
-        self.branch_to(always, goes, i.annul, target);
+        self.go_to(branched(always, goes, i.annul, target, self.pair()));
         Act::Nothing
     }
 

@@ -1,13 +1,22 @@
 //! Laws of the step. Their functions do nothing: a law is a contract.
 
 ghost use Rattle.sparc_meaning.specs.Kept.{OutsAreIns, WindowsAreKept};
-ghost use Rattle.sparc_meaning.specs.Named.{EffectsTell, NamesAll};
+ghost use Rattle.sparc_meaning.specs.Laws as law;
 
-/// What an instruction names as its sources and destinations is all that it reads and writes, and its
-/// effect on the windows is what it does with them. A step that ends the processor changes nothing else.
-pub fn instructions_name_all()
-    ensures registers { NamesAll }
-    ensures windows { EffectsTell }
+/// A step is what its operands compute, applied to the state. So what an instruction names as its sources and
+/// destinations is all that its step reads and writes. A step that ends the processor changes nothing else, and one
+/// that reads nothing from memory doesn't look at the value that it is given.
+pub fn steps_are_computed()
+    ensures step { law.StepIsComputed }
+    ensures ends { law.EndsAlone }
+    ensures others { law.OthersIgnoreTheValue }
+{}
+
+/// What is known of an instruction before its step: the trap and address of an access by the operands of its address,
+/// and whether it spills or fills a window first by its effect on the windows.
+pub fn instructions_tell_ahead()
+    ensures addresses { law.AddressesAlone }
+    ensures windows { law.EffectsAsk }
 {}
 
 /// The windows overlap, and what a window held before its spill it holds again after its fill.

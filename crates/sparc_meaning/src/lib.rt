@@ -4,9 +4,13 @@
 
 mod accesses;
 mod acts;
+mod applying;
 mod arch;
 mod control;
 mod execution;
+mod fetched;
+mod fetching;
+mod from_operands;
 mod laws;
 mod start;
 #[cfg(test)]
@@ -22,8 +26,12 @@ mod wants;
 mod windows;
 
 pub use acts::{Act, Spoken, Want};
+pub use applying::apply;
 pub use arch::{Arch, ArchPhase, End};
-pub use execution::step;
-pub use laws::{instructions_name_all, windows_are_kept};
+pub use execution::{step, step_at};
+pub use fetched::{Computed, Fetched, Operands};
+pub use fetching::instr_at;
+pub use from_operands::compute;
+pub use laws::{instructions_tell_ahead, steps_are_computed, windows_are_kept};
 pub use start::boot;
-pub use wants::peek;
+pub use wants::{peek, peek_at};

@@ -3,7 +3,7 @@
 ghost use Rattle.std.specs.Prelude.{◌≡◌, ◌<◌, ◌≤◌};
 ghost use Rattle.sparc_meaning.specs.Arch.{IsSound, boot as boot_of};
 
-use crate::arch::{Arch, ArchPhase, End};
+use crate::arch::{Arch, ArchPhase, End, O0, O1, O6, place};
 use elf64_load::Image;
 use rsim_base::Node;
 
@@ -15,13 +15,6 @@ const STACK_BYTES: u64 = 0x1_0000;
 
 const BELOW_END: u64 = 2303;
 
-// The outs of window 0 are the ins of window 1.
-const O0: usize = 16;
-
-const O1: usize = 17;
-
-const O6: usize = 22;
-
 /// The state in which processor `p` of so many starts: at the entry, with `p` in %o0, the number of
 /// processors in %o1, and its stack in %o6. Every other register is 0.
 pub fn boot(image: &Image, p: Node, processors: u8) -> Arch
@@ -31,9 +24,9 @@ pub fn boot(image: &Image, p: Node, processors: u8) -> Arch
     ensures sound { IsSound result }
 {
     let mut windowed = [0; 128];
-    windowed[O0] = u64::from(p.0);
-    windowed[O1] = u64::from(processors);
-    windowed[O6] = STACKS + (u64::from(p.0) + 1) * STACK_BYTES - BELOW_END;
+    windowed[place(0, O0)] = u64::from(p.0);
+    windowed[place(0, O1)] = u64::from(processors);
+    windowed[place(0, O6)] = STACKS + (u64::from(p.0) + 1) * STACK_BYTES - BELOW_END;
     Arch {
         globals: [0; 8],
         windowed,

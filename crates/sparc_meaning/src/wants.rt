@@ -4,15 +4,15 @@ ghost use Rattle.std.specs.Prelude.{◌≡◌, ◌<◌, ◌≤◌, ℕ, true, fa
 ghost use Rattle.sparc_decode.specs.Ranges.{IsInRange};
 ghost use Rattle.sparc_meaning.specs.Arch.{IsSound, is_running};
 ghost use Rattle.sparc_meaning.specs.Acts.{IsAlignedWant, reads};
-ghost use Rattle.sparc_meaning.specs.Step.{step};
-ghost use Rattle.sparc_meaning.specs.Wants as spec;
+ghost use Rattle.sparc_meaning.specs.Step.{step, instr_at as spec_instr_at};
 ghost use Rattle.sparc_meaning.specs.Wants.{load_at, atomic_at};
 
 use crate::acts::Want;
 use crate::arch::{Arch, ArchPhase};
+use crate::fetching::instr_at;
 use elf64_load::Image;
 use rsim_base::{Addr, Size};
-use sparc_decode::{Instr, Op, decode};
+use sparc_decode::{Instr, Op};
 
 /// The access by which the next step reads memory, if it makes one; a step that traps or only stores
 /// makes none.
@@ -22,21 +22,23 @@ pub fn peek(arch: &Arch, image: &Image) -> Want
     ensures wants { is_running arch.now.end ≡ true → (value : ℕ) → result ≡ reads (step image.now arch.now value).act }
     ensures aligned { IsAlignedWant result }
 {
-    if arch.end.is_running() {
-        arch.wants(image)
-    } else {
-        Want::Ended
-    }
+    let i = instr_at(image, arch.pc);
+    peek_at(arch, &i, image)
 }
 
-// Whether a word is of a form that may read memory. Most are not, and need not be decoded for that.
-fn may_read(word: u32) -> bool
-    ensures { result ≡ spec.may_read word }
+/// As `peek`, where `i` is the instruction at pc.
+pub fn peek_at(arch: &Arch, i: &Instr, image: &Image) -> Want
+    requires sound { IsSound arch.now }
+    requires fetched { i.now ≡ spec_instr_at image.now arch.now.pc }
+    requires registers { IsInRange i.now }
+    ensures ended { is_running arch.now.end ≡ false → result ≡ Want.Ended }
+    ensures wants { is_running arch.now.end ≡ true → (value : ℕ) → result ≡ reads (step image.now arch.now value).act }
+    ensures aligned { IsAlignedWant result }
 {
-    match word >> 30 {
-        2 => matches!(word >> 19 & 0x3f, 0x39 | 0x3d),
-        3 => true,
-        _ => false,
+    if arch.end.is_running() {
+        arch.wants(i, image)
+    } else {
+        Want::Ended
     }
 }
 
@@ -70,16 +72,15 @@ impl Arch {
 
     // What a step reads, by what the processor is at.
     #[tactic(auto, unfolding(crate::specs::Wants::wanted))]
-    fn wants(&self, image: &Image) -> Want
+    fn wants(&self, i: &Instr, image: &Image) -> Want
         requires sound { IsSound self.now }
+        requires fetched { i.now ≡ spec_instr_at image.now self.now.pc }
+        requires registers { IsInRange i.now }
         ensures value { result ≡ wanted image.now self.now }
         ensures aligned { IsAlignedWant result }
     {
         match self.phase {
-            ArchPhase::Run => match image.fetch(self.pc) {
-                Some(word) if may_read(word) => self.instr_wants(&decode(word), image),
-                _ => Want::None,
-            },
+            ArchPhase::Run => self.instr_wants(i, image),
             ArchPhase::Spill(_) => Want::None,
             ArchPhase::Fill(k) => self.fill_wants(k, image),
         }

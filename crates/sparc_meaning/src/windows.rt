@@ -2,27 +2,114 @@
 
 ghost use Rattle.std.specs.Prelude.{◌≡◌, ◌<◌, ◌≤◌, ◌+◌};
 ghost use Rattle.sparc_meaning.specs.Arch.{IsSound};
+ghost use Rattle.sparc_meaning.specs.Windows as spec;
 
 use crate::acts::Act;
-use crate::arch::{Arch, ArchPhase, above, below};
+use crate::arch::{Arch, ArchPhase, L0, O6, above, below};
 use crate::traps::{DATA_ACCESS_EXCEPTION, MEM_ADDRESS_NOT_ALIGNED};
 use elf64_load::Image;
-use rsim_base::{Addr, Size};
+use rsim_base::{Addr, Size, Window};
 use sparc_decode::Op;
 
-// The stack pointer of a window, %o6, and how far above it the save area lies (H.1.3).
-const O6: u8 = 14;
-
+// How far above a window's stack pointer its save area lies (H.1.3).
 const BIAS: u64 = 2047;
 
 // The last step of a spill or fill.
 const LAST: u8 = 15;
 
-// %l0, which the save area begins with.
-const L0: u8 = 16;
+/// The windows after a SAVE.
+pub(crate) fn window_above(w: Window) -> Window
+    requires current { w.cwp < 8 }
+    requires room { 1 ≤ w.cansave }
+    requires few { w.canrestore ≤ 6 }
+    ensures { result ≡ spec.window_above w }
+{
+    Window {
+        cwp: above(w.cwp),
+        cansave: w.cansave - 1,
+        canrestore: w.canrestore + 1,
+    }
+}
+
+/// The windows after a RESTORE.
+pub(crate) fn window_below(w: Window) -> Window
+    requires current { w.cwp < 8 }
+    requires kept { 1 ≤ w.canrestore }
+    requires few { w.cansave ≤ 6 }
+    ensures { result ≡ spec.window_below w }
+{
+    Window {
+        cwp: below(w.cwp),
+        cansave: w.cansave + 1,
+        canrestore: w.canrestore - 1,
+    }
+}
+
+/// The windows after the last step of a spill.
+pub(crate) fn one_less_kept(w: Window) -> Window
+    requires kept { 1 ≤ w.canrestore }
+    requires few { w.cansave ≤ 6 }
+    ensures { result ≡ spec.one_less_kept w }
+{
+    Window {
+        cansave: w.cansave + 1,
+        canrestore: w.canrestore - 1,
+        ..w
+    }
+}
+
+/// The windows after the last step of a fill.
+pub(crate) fn one_more_kept(w: Window) -> Window
+    requires room { 1 ≤ w.cansave }
+    requires few { w.canrestore ≤ 6 }
+    ensures { result ≡ spec.one_more_kept w }
+{
+    Window {
+        cansave: w.cansave - 1,
+        canrestore: w.canrestore + 1,
+        ..w
+    }
+}
+
+/// The window that a spill stores: the oldest that can be restored from.
+pub(crate) fn oldest(w: Window) -> u8
+    requires current { w.cwp < 8 }
+    requires few { w.cansave ≤ 6 }
+    ensures value { result ≡ spec.oldest w }
+    ensures window { result < 8 }
+{
+    (w.cwp + w.cansave + 2) % 8
+}
+
+/// The place in memory of register 16 + `k` of the window with this stack pointer.
+pub(crate) fn slot_at(pointer: u64, k: u8) -> u64
+    ensures { result ≡ spec.slot_at pointer k }
+{
+    pointer.wrapping_add(BIAS + 8 * u64::from(k))
+}
 
 impl Arch {
-    ghost use Rattle.sparc_meaning.specs.Windows.{saved, restored, spills_first, fills_first, spilled, filled, slot, after_spill, after_fill, spill, fill};
+    ghost use Rattle.sparc_meaning.specs.Windows.{windows_of, with_windows, saved, restored, spills_first, fills_first, spilled, filled, slot, after_spill, after_fill, spill, fill};
+
+    /// The windows as they stand.
+    pub(crate) fn window(&self) -> Window
+        ensures { result ≡ windows_of self.now }
+    {
+        Window {
+            cwp: self.cwp,
+            cansave: self.cansave,
+            canrestore: self.canrestore,
+        }
+    }
+
+    /// To these windows.
+    pub(crate) fn set_window(&mut self, w: Window)
+        ensures { self.new ≡ with_windows w self.old }
+    {
+        self.cwp = w.cwp;
+        self.cansave = w.cansave;
+        self.canrestore = w.canrestore;
+    }
 
     /// To the window above.
     pub(crate) fn save_window(&mut self)
@@ -30,9 +117,7 @@ impl Arch {
         requires room { 1 ≤ self.old.cansave }
         ensures { self.new ≡ saved self.old }
     {
-        self.cwp = above(self.cwp);
-        self.cansave -= 1;
-        self.canrestore += 1;
+        self.set_window(window_above(self.window()));
     }
 
     /// To the window below.
@@ -41,9 +126,7 @@ impl Arch {
         requires kept { 1 ≤ self.old.canrestore }
         ensures { self.new ≡ restored self.old }
     {
-        self.cwp = below(self.cwp);
-        self.cansave += 1;
-        self.canrestore -= 1;
+        self.set_window(window_below(self.window()));
     }
 
     /// Whether an instruction must wait for the spill of a window.
@@ -75,7 +158,7 @@ impl Arch {
         ensures value { result ≡ spilled self.now }
         ensures window { result < 8 }
     {
-        (self.cwp + self.cansave + 2) % 8
+        oldest(self.window())
     }
 
     // The place of register 16 + k of a window in memory.
@@ -83,8 +166,7 @@ impl Arch {
         requires window { window < 8 }
         ensures { result ≡ slot window self.now k }
     {
-        self.register_of(window, O6)
-            .wrapping_add(BIAS + 8 * u64::from(k))
+        slot_at(self.register_of(window, O6), k)
     }
 
     /// Step `k` of the spill of a window.
@@ -116,8 +198,7 @@ impl Arch {
     {
         if k == LAST {
             self.phase = ArchPhase::Run;
-            self.cansave += 1;
-            self.canrestore -= 1;
+            self.set_window(one_less_kept(self.window()));
         } else {
             self.phase = ArchPhase::Spill(k + 1);
         }
@@ -159,8 +240,7 @@ impl Arch {
     {
         if k == LAST {
             self.phase = ArchPhase::Run;
-            self.cansave -= 1;
-            self.canrestore += 1;
+            self.set_window(one_more_kept(self.window()));
         } else {
             self.phase = ArchPhase::Fill(k + 1);
         }

@@ -1,6 +1,6 @@
 use Rattle.std.proofs.Common.{◌≡◌, ◌+◌, ◌-◌, ◌*◌, ◌<◌, ◌^◌, ◌&&◌, ap, ◌∙◌, nat_le, nat_lt, if◌then◌else◌, arith}
 use Rattle.rsim_base.specs.Bytes.{count_of}
-use Rattle.rsim_base.proofs.ByteSets.{count_of-bounds}
+use Rattle.rsim_base.specs.ByteSets.{count_of-bounds}
 use Rattle.rsim_top.proofs.Digits.{digits, digits-low, mod-pow-lt, replaced, replaced-in_64, byte-replaced}
 use Rattle.rsim_top.proofs.memory.with_part.Goals as goal
 

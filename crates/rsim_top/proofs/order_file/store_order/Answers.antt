@@ -1,20 +1,20 @@
 use Rattle.std.proofs.Common.{◌+◌, ◌∙◌, arith}
 use Rattle.std.proofs.lemmas.Result.{err_from_is_err_and}
 use Rattle.rsim_top.proofs.OrderFiles.{IsSoFar-line, IsSoFar-end}
-use Rattle.rsim_top.proofs.Stored.{IsSoFar-written, HasFile-written, HasPartOfFile-so_far, HasPartOfFile-from_failed, HasPartOfFile-from_append}
+use Rattle.rsim_top.proofs.Stored.{IsSoFar-written, HasFile-written, HasPrefixOfFile-so_far, HasPrefixOfFile-from_failed, HasPrefixOfFile-from_append}
 use Rattle.rsim_top.proofs.Texts.{order_of-parts}
 use Rattle.rsim_top.proofs.order_file.store_order.Goals as goal
 use Rattle.rsim_top.proofs.order_file.store_order.Goals.{then-len-ge-PIECE+in_ok-append, else-len-ge-PIECE}
 
 pub returns-in_default-push_line-clause-part : goal.returns-in_default-push_line-clause-part
 returns-in_default-push_line-clause-part g c =
-    HasPartOfFile-so_far _ _ _ _ _ _ _ c.loop-access.invariant.lines (order_of-parts c.args.order.now c.args.retired c.loop-access.access-index)
+    HasPrefixOfFile-so_far _ _ _ _ _ _ _ c.loop-access.invariant.lines (order_of-parts c.args.order.now c.args.retired c.loop-access.access-index)
 
 pub returns-in_err-append-clause-part : goal.returns-in_err-append-clause-part
 returns-in_err-append-clause-part g c =
     let exit = err_from_is_err_and c.from_residual-in_err-append.result c.from_residual-in_err-append.ensures.1 in
     let so_far = IsSoFar-line _ c.args.order.now c.loop-access.access-index _ _ _ _ _ c.loop-access-test.true c.loop-access.invariant.lines (c.deref.ensures.value ∙ c.in-Ok-push_line.ensures) in
-    rw exit.1 (HasPartOfFile-from_failed (g.S.Shelf.holds c.args.shelf.now) (g.S.Shelf.holds c.loop-access.shelf) (g.S.Shelf.holds c.append.new.self) c.args.name.now
+    rw exit.1 (HasPrefixOfFile-from_failed (g.S.Shelf.holds c.args.shelf.now) (g.S.Shelf.holds c.loop-access.shelf) (g.S.Shelf.holds c.append.new.self) c.args.name.now
     _ _ _ c.deref.result.now exit.0 so_far (order_of-parts c.args.order.now c.args.retired (c.loop-access.access-index + 1)) c.in_err-append.ensures.appended)
 
 pub loop-access-preserved : goal.loop-access-preserved
@@ -30,7 +30,7 @@ loop-access-preserved g c =
 
 pub returns-in_default-push_ending-clause-part : goal.returns-in_default-push_ending-clause-part
 returns-in_default-push_ending-clause-part g c =
-    HasPartOfFile-so_far _ _ _ _ _ _ _ c.loop-access.invariant.lines (order_of-parts c.args.order.now c.args.retired c.loop-access.access-index)
+    HasPrefixOfFile-so_far _ _ _ _ _ _ _ c.loop-access.invariant.lines (order_of-parts c.args.order.now c.args.retired c.loop-access.access-index)
 
 pub returns-clause-stored : goal.returns-clause-stored
 returns-clause-stored g c =
@@ -40,4 +40,4 @@ returns-clause-stored g c =
 pub returns-clause-part : goal.returns-clause-part
 returns-clause-part g c =
     let whole = IsSoFar-end _ c.args.order.now c.loop-access.access-index c.args.retired _ _ _ _ c.loop-access-test.false c.loop-access.invariant.lines (c.deref-2.ensures.value ∙ c.in-Ok-push_ending.ensures) in
-    HasPartOfFile-from_append _ _ _ _ _ _ c.append-2.result whole c.append-2.ensures.appended
+    HasPrefixOfFile-from_append _ _ _ _ _ _ c.append-2.result whole c.append-2.ensures.appended

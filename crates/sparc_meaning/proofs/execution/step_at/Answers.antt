@@ -2,8 +2,8 @@ use Rattle.std.proofs.Common.{sym, subst}
 use Rattle.sparc_meaning.specs.Acts.{IsAligned, HasFound, IsSized}
 use Rattle.sparc_meaning.specs.Arch.{IsSound}
 use Rattle.sparc_meaning.proofs.Sound.{step_sound}
-use Rattle.sparc_meaning.proofs.StepReads.{step_aligned, step_found, step_sized}
-use Rattle.sparc_meaning.proofs.execution.step.Goals as goal
+use Rattle.sparc_meaning.specs.StepReads.{step_aligned, step_found, step_sized}
+use Rattle.sparc_meaning.proofs.execution.step_at.Goals as goal
 
 pub returns-clause-sound : goal.returns-clause-sound
 returns-clause-sound c = subst (λ x. IsSound x.state) (sym c.step_in_phase.ensures) (step_sound c.args.image.now c.args.arch.now c.args.value c.requires.sound)

@@ -7,9 +7,8 @@ use Rattle.std.proofs.lemmas.Nat.{pow_pos}
 use Rattle.rsim_base.specs.Bytes.{count_of, low_bytes, FitsIn}
 use Rattle.rsim_base.specs.declared.memory.Size.{Size}
 use Rattle.rsim_base.specs.declared.memory.Size.TheVariants.{B1, B4, B8}
-use Rattle.elf64_load.specs.Image.{ImageView, fetched, is_readable, is_writable}
+use Rattle.elf64_load.specs.Image.{ImageView, is_readable, is_writable}
 use Rattle.sparc_decode.specs.declared.instr.Instr.{Instr}
-use Rattle.sparc_decode.specs.Instr.{instr}
 use Rattle.sparc_alu.specs.declared.arithmetic.AluOut.{AluOut}
 use Rattle.sparc_alu.specs.declared.arithmetic.DivisionByZero.{DivisionByZero}
 use Rattle.sparc_alu.specs.Accesses.{extended}
@@ -23,9 +22,9 @@ use Rattle.sparc_meaning.specs.Acts.{IsAligned, HasFound, IsSized, reads}
 use Rattle.sparc_meaning.specs.Arch.{register, register_of, with_register, with_register_of}
 use Rattle.sparc_meaning.specs.Forms as form
 use Rattle.sparc_meaning.specs.Forms.{executed}
-use Rattle.sparc_meaning.specs.Step.{step, in_phase, of_word, of_instr}
+use Rattle.sparc_meaning.specs.Step.{step, in_phase, of_instr, instr_at}
 use Rattle.sparc_meaning.specs.Stepped.{Stepped, accessed, goes_on, service, trapped}
-use Rattle.sparc_meaning.specs.Wants.{wanted, by_phase, by_word, by_instr, by_fill, by_kind, where_allowed, load_at, atomic_at}
+use Rattle.sparc_meaning.specs.Wants.{wanted, by_phase, by_instr, by_fill, by_kind, where_allowed, load_at, atomic_at}
 use Rattle.sparc_meaning.specs.Windows.{spills_first, fills_first, spill, fill, spilled, filled, slot, slot_register, after_spill, after_fill}
 
 record Does (value : ℕ) (x : Stepped) (w : Want) : Type 0 where
@@ -146,12 +145,8 @@ of_instr_does i image s value =
     chosen value (spills_first i.op s) (spill 0 image s) _ want.None _ (λ must. spill_does 0 image s value)
     (λ no. chosen value (fills_first i.op s) (fill 0 image s value) _ (by_fill 0 image s) _ (λ must. fill_does 0 image s value) (λ no. executed_does (form.kind i.op) image i s value))
 
-of_word_does : (word : Option ℕ) (image : ImageView) (s : Arch) (value : ℕ) → Does value (of_word word image s value) (by_word word image s)
-of_word_does None image s value = record { reads_it = refl; aligned = tt; found = tt; sized = tt }
-of_word_does (Some word) image s value = of_instr_does (instr word) image s value
-
 in_phase_does : (phase : ArchPhase) (image : ImageView) (s : Arch) (value : ℕ) → Does value (in_phase phase image s value) (by_phase phase image s)
-in_phase_does Run image s value = of_word_does (fetched image s.pc) image s value
+in_phase_does Run image s value = of_instr_does (instr_at image s.pc) image s value
 in_phase_does (Spill k) image s value = spill_does k image s value
 in_phase_does (Fill k) image s value = fill_does k image s value
 

@@ -3,9 +3,8 @@ use Rattle.std.proofs.Common.{◌≡◌, ◌%◌, ◌==◌, ◌&&◌, ℕ, Bool,
 use Rattle.rsim_base.specs.Bytes.{count_of, low_bytes}
 use Rattle.rsim_base.specs.declared.memory.Size.{Size}
 use Rattle.rsim_base.specs.declared.memory.Size.TheVariants.{B1, B4, B8}
-use Rattle.elf64_load.specs.Image.{ImageView, fetched, is_readable, is_writable}
+use Rattle.elf64_load.specs.Image.{ImageView, is_readable, is_writable}
 use Rattle.sparc_decode.specs.declared.instr.Instr.{Instr}
-use Rattle.sparc_decode.specs.Instr.{instr}
 use Rattle.sparc_alu.specs.Accesses.{extended}
 use Rattle.sparc_meaning.specs.declared.acts.Act.TheVariants.{Load, Atomic}
 use Rattle.sparc_meaning.specs.declared.arch.Arch.{Arch}
@@ -14,14 +13,14 @@ use Rattle.sparc_meaning.specs.declared.arch.ArchPhase.TheVariants.{Run, Spill, 
 use Rattle.sparc_meaning.specs.Arch.{register, with_register, with_register_of}
 use Rattle.sparc_meaning.specs.Forms as form
 use Rattle.sparc_meaning.specs.Forms.{executed}
-use Rattle.sparc_meaning.specs.Run.{is_load}
-use Rattle.sparc_meaning.specs.Step.{step, in_phase, of_word, of_instr}
+use Rattle.sparc_meaning.specs.Run.{uses_value}
+use Rattle.sparc_meaning.specs.Step.{step, in_phase, of_instr, instr_at}
 use Rattle.sparc_meaning.specs.Stepped.{Stepped, accessed, goes_on, trapped}
 use Rattle.sparc_meaning.specs.Windows.{spills_first, fills_first, spill, fill, filled, slot, slot_register, after_fill}
 
 -- two steps are the same if the first reads nothing
 record Same (x y : Stepped) : Type 0 where
-  is : is_load x.act ≡ false → y ≡ x
+  is : uses_value x.act ≡ false → y ≡ x
 
 same : (x : Stepped) → Same x x
 same x = record { is = λ quiet. refl }
@@ -64,15 +63,11 @@ of_instr_same i image s v w =
     either (spills_first i.op s) (spill 0 image s) _ (spill 0 image s) _ (same _)
     (either (fills_first i.op s) (fill 0 image s v) _ (fill 0 image s w) _ (fill_same 0 image s v w) (executed_same (form.kind i.op) image i s v w))
 
-of_word_same : (word : Option ℕ) (image : ImageView) (s : Arch) (v w : ℕ) → Same (of_word word image s v) (of_word word image s w)
-of_word_same None image s v w = same _
-of_word_same (Some word) image s v w = of_instr_same (instr word) image s v w
-
 in_phase_same : (phase : ArchPhase) (image : ImageView) (s : Arch) (v w : ℕ) → Same (in_phase phase image s v) (in_phase phase image s w)
-in_phase_same Run image s v w = of_word_same (fetched image s.pc) image s v w
+in_phase_same Run image s v w = of_instr_same (instr_at image s.pc) image s v w
 in_phase_same (Spill k) image s v w = same _
 in_phase_same (Fill k) image s v w = fill_same k image s v w
 
-pub step_ignores : (image : ImageView) (s : Arch) (v w : ℕ) → is_load (step image s v).act ≡ false → step image s w ≡ step image s v
+pub step_ignores : (image : ImageView) (s : Arch) (v w : ℕ) → uses_value (step image s v).act ≡ false → step image s w ≡ step image s v
 unfolding step
 step_ignores image s v w quiet = (in_phase_same s.phase image s v w).is quiet
