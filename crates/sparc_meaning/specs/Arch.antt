@@ -18,7 +18,7 @@ abbrev pub below : ℕ → ℕ
 below w = (w + 7) % 8
 
 -- Where register r of window w stands among the windowed registers, for r from 8 on. Each window has 8 ins
--- and 8 locals there; its outs are the ins of the window above (5.1.4).
+-- and 8 locals there; its outs are the ins of the window above (5.1.1).
 abbrev pub place : ℕ → ℕ → ℕ
 place w r =
     if nat_lt r 16 then 16 * above w + (r - 8)  -- outs, 8 to 15
@@ -48,8 +48,8 @@ with_register r value s = with_register_of s.cwp r value s
 
 -- ---- states
 
--- A spill or fill that has begun, at its step 1 to 15. While one window is spilled there is another to
--- restore from, and while one is filled there is another to save to.
+-- A spill or fill that has begun, at its step 1 to 15. A spill has a window to store, of those that can be restored
+-- from, and a fill one to load, of those that can be saved to.
 abbrev pub IsPhase : ArchPhase → ℕ → ℕ → Type 0
 IsPhase Run cansave canrestore = ⊤
 IsPhase (Spill k) cansave canrestore = (1 ≤ k) × (k ≤ 15) × (1 ≤ canrestore)

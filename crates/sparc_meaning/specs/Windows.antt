@@ -1,4 +1,4 @@
--- Register windows (SPARC V9, 5.1.4, 6.3.6 and 6.4): SAVE and RESTORE, and the spills and fills that make room for
+-- Register windows (SPARC V9, 5.1.1, 6.3.6 and 6.4): SAVE and RESTORE, and the spills and fills that make room for
 -- them. The manual leaves spills and fills to a trap handler; here the processor makes them, as sixteen steps
 -- of one access each.
 use Rattle.std.specs.Prelude.{ℕ, ◌+◌, ◌-◌, ◌*◌, ◌%◌, ◌^◌, ◌==◌, Bool, false, not, if◌then◌else◌}

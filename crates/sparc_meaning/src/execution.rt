@@ -107,29 +107,11 @@ impl Arch {
     }
 
     // An instruction, or the first step of the spill or fill that it needs.
-    #[tactic(auto, unfolding(crate::specs::Windows::spills_first, crate::specs::Windows::fills_first))]
+    #[tactic(auto, unfolding(crate::specs::Forms::kind, crate::specs::Forms::executed, crate::specs::Windows::spills_first, crate::specs::Windows::fills_first))]
     fn run(&mut self, i: &Instr, image: &Image, value: u64) -> Act
         requires sound { IsSound self.old }
         requires registers { IsInRange i.now }
         ensures { record { state = self.new; act = result } ≡ of_instr i.now image.now self.old value }
-    {
-        if self.spills_first(i.op) {
-            self.spill(0, image)
-        } else if self.fills_first(i.op) {
-            self.fill(0, image, value)
-        } else {
-            self.execute(i, image, value)
-        }
-    }
-
-    // An instruction that needs no spill or fill.
-    #[tactic(auto, unfolding(crate::specs::Forms::kind, crate::specs::Forms::executed, crate::specs::Windows::spills_first, crate::specs::Windows::fills_first))]
-    fn execute(&mut self, i: &Instr, image: &Image, value: u64) -> Act
-        requires sound { IsSound self.old }
-        requires registers { IsInRange i.now }
-        requires no_spill { spills_first i.now.op self.old ≡ false }
-        requires no_fill { fills_first i.now.op self.old ≡ false }
-        ensures { record { state = self.new; act = result } ≡ executed (kind i.now.op) image.now i.now self.old value }
     {
         match i.op {
             Op::Trap => self.trap(i.trap),
@@ -137,15 +119,18 @@ impl Arch {
             Op::BPr => self.branch(false, i),
             Op::Call => self.call(i),
             Op::Jmpl => self.jump_and_link(i),
-            Op::Return => self.return_to(i),
             Op::Movcc | Op::Movr => self.move_if_taken(i),
             Op::Tcc => self.trap_if_taken(i),
             Op::Sethi => self.set(i.rd, bits_of(i.disp)),
             Op::RdPc => self.set(i.rd, self.pc),
             Op::Membar | Op::Stbar => self.go_on(Act::Fence(i.mask)),
-            Op::Flush | Op::Flushw | Op::Prefetch => self.go_on(Act::Nothing),
+            Op::Save if self.cansave == 0 => self.spill(0, image),
+            Op::Flushw if self.cansave != 6 => self.spill(0, image),
+            Op::Restore | Op::Return if self.canrestore == 0 => self.fill(0, image, value),
             Op::Save => self.save(i),
             Op::Restore => self.restore(i),
+            Op::Return => self.return_to(i),
+            Op::Flush | Op::Flushw | Op::Prefetch => self.go_on(Act::Nothing),
             Op::Ldub | Op::Ldsb => self.load(Size::B1, image, i, value),
             Op::Lduh | Op::Ldsh => self.load(Size::B2, image, i, value),
             Op::Lduw | Op::Ldsw => self.load(Size::B4, image, i, value),
@@ -158,7 +143,7 @@ impl Arch {
             Op::Swap => self.swap(image, i, value),
             Op::Casa => self.compare_and_swap(Size::B4, image, i, value),
             Op::Casxa => self.compare_and_swap(Size::B8, image, i, value),
-            _ => self.compute(i),
+            _ => self.calculate(i),
         }
     }
 
@@ -269,7 +254,8 @@ impl Arch {
         self.set(i.rd, total)
     }
 
-    fn compute(&mut self, i: &Instr) -> Act
+    // Arithmetic.
+    fn calculate(&mut self, i: &Instr) -> Act
         requires window { self.old.cwp < 8 }
         requires registers { IsInRange i.now }
         ensures { record { state = self.new; act = result } ≡ written (computed i.now.op (first i.now self.old) (second i.now self.old) self.old.cc self.old.y) i.now self.old }

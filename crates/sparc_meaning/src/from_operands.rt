@@ -189,11 +189,11 @@ impl Fetched {
     fn move_if_taken(&self, x: &Operands) -> Computed
         ensures { result ≡ by.move self.now x.now }
     {
-        self.give(if self.is_taken(x) {
-            self.second(x)
+        if self.is_taken(x) {
+            self.give(self.second(x))
         } else {
-            x.c
-        })
+            self.give(x.c)
+        }
     }
 
     // A trap instruction, if its condition is true.

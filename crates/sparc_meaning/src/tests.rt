@@ -4,9 +4,11 @@
 ghost use Rattle.std.specs.Prelude.{IsTrue};
 ghost use Rattle.sparc_meaning.specs.Arch.{IsSound};
 
-use crate::{Act, Arch, ArchPhase, End, Want, boot, peek, step};
+use crate::{
+    Act, Arch, ArchPhase, Computed, End, Fetched, Operands, Want, apply, boot, compute, peek, step,
+};
 use elf64_load::{Image, load};
-use rsim_base::Node;
+use rsim_base::{Node, Pair};
 use std::alloc::Global;
 use std::test::Fail;
 
@@ -132,13 +134,26 @@ pub(crate) fn look(arch: &Arch, image: &Image) -> Option<Want> {
 }
 
 /// A step, with what memory has where it reads it: what it was to read, and what it did. A processor that has
-/// ended makes none.
+/// ended makes none. The step is made from its operands too, and nothing is answered where that does otherwise.
 pub(crate) fn made(arch: &mut Arch, image: &Image, value: u64) -> Option<(Want, Act)> {
     if !is_sound(arch) || !arch.end.is_running() {
         return None;
     }
     let want = peek(arch, image);
-    Some((want, step(arch, image, value)))
+    let mut other = *arch;
+    let applied = made_from_operands(&mut other, image, value);
+    let act = step(arch, image, value);
+    (applied == act && other == *arch).then_some((want, act))
+}
+
+// A step, made from its operands.
+fn made_from_operands(arch: &mut Arch, image: &Image, value: u64) -> Act
+    requires { IsSound arch.old }
+{
+    let fetched = Fetched::next_of(arch, image);
+    let operands = Operands::of(&fetched, arch);
+    let computed = compute(image, &fetched, &operands);
+    apply(arch, &fetched, &operands, &computed, value)
 }
 
 #[test]
@@ -614,5 +629,37 @@ fn the_next_pc_goes_round(rt: HostRuntime) -> Result<(), Fail> {
     let did = made(&mut arch, &image, 0);
     assert_eq!(rt; did, Some((Want::None, Act::Nothing)));
     assert_eq!(rt; arch, at(0xFFFF_FFFF_FFFF_FFFC, 0, busy()));
+    Ok(())
+}
+
+#[test]
+fn a_step_is_told_by_its_operands(rt: HostRuntime) -> Result<(), Fail> {
+    // addcc %g1, %g2, %g3, whose operands are not those of `busy`
+    let image = program(rt.alloc(), &[0x8680_4002])?;
+    let arch = busy();
+    assert!(rt; is_sound(&arch));
+    let fetched = Fetched::next_of(&arch, &image);
+    let operands = Operands {
+        a: u64::MAX,
+        b: 1,
+        c: 0,
+        cc: 0,
+        y: 0,
+    };
+    let computed = Computed {
+        end: End::Running,
+        addr: 0,
+        next: Pair {
+            pc: NEXT,
+            npc: 0x10_0044,
+        },
+        taken: false,
+        out: None,
+        value: 0,
+        // Z and C, of both widths
+        cc: 0x55,
+        y: 0,
+    };
+    assert_eq!(rt; compute(&image, &fetched, &operands), computed);
     Ok(())
 }

@@ -67,8 +67,7 @@ fn atomic(n: Size, addr: u64, image: &Image) -> Want
 }
 
 impl Arch {
-    ghost use Rattle.sparc_meaning.specs.Forms.{kind};
-    ghost use Rattle.sparc_meaning.specs.Wants.{wanted, by_fill, by_instr, by_kind};
+    ghost use Rattle.sparc_meaning.specs.Wants.{wanted, by_fill, by_instr};
 
     // What a step reads, by what the processor is at.
     #[tactic(auto, unfolding(crate::specs::Wants::wanted))]
@@ -95,27 +94,12 @@ impl Arch {
         load(Size::B8, self.fill_slot(k), image)
     }
 
-    // What an instruction reads, or the first step of the spill or fill that it needs.
+    // What an instruction reads, or the first step of the fill that it needs.
+    #[tactic(auto, unfolding(crate::specs::Forms::kind, crate::specs::Wants::by_kind, crate::specs::Windows::spills_first, crate::specs::Windows::fills_first))]
     fn instr_wants(&self, i: &Instr, image: &Image) -> Want
         requires sound { IsSound self.now }
         requires registers { IsInRange i.now }
         ensures value { result ≡ by_instr i.now image.now self.now }
-        ensures aligned { IsAlignedWant result }
-    {
-        if self.spills_first(i.op) {
-            Want::None
-        } else if self.fills_first(i.op) {
-            self.fill_wants(0, image)
-        } else {
-            self.access_wants(i, image)
-        }
-    }
-
-    #[tactic(auto, unfolding(crate::specs::Forms::kind, crate::specs::Wants::by_kind))]
-    fn access_wants(&self, i: &Instr, image: &Image) -> Want
-        requires sound { IsSound self.now }
-        requires registers { IsInRange i.now }
-        ensures value { result ≡ by_kind (kind i.now.op) image.now i.now self.now }
         ensures aligned { IsAlignedWant result }
     {
         match i.op {
@@ -127,6 +111,7 @@ impl Arch {
             Op::Swap => atomic(Size::B4, self.total(i), image),
             Op::Casa => atomic(Size::B4, self.first(i), image),
             Op::Casxa => atomic(Size::B8, self.first(i), image),
+            Op::Restore | Op::Return if self.canrestore == 0 => self.fill_wants(0, image),
             _ => Want::None,
         }
     }

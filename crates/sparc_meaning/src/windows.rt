@@ -1,4 +1,4 @@
-//! Register windows, and their spills and fills (SPARC V9, 5.1.4 and 6.4).
+//! Register windows, and their spills and fills (SPARC V9, 5.1.1 and 6.4).
 
 ghost use Rattle.std.specs.Prelude.{◌≡◌, ◌<◌, ◌≤◌, ◌+◌};
 ghost use Rattle.sparc_meaning.specs.Arch.{IsSound};
