@@ -11,6 +11,7 @@ mod instr;
 mod laws;
 mod memory;
 mod operands;
+mod registers;
 
 pub use decoder::decode;
 pub use effects::{dest, sources, window_effect};
