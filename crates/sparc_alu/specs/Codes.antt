@@ -1,4 +1,4 @@
--- The condition codes of a result (SPARC V9, 5.1.5.1). The condition codes register has those of the 64-bit
+-- The condition codes of a result (SPARC V9, 5.1.5). The condition codes register has those of the 64-bit
 -- result, xcc, in bits 7 to 4, and those of the 32-bit result, icc, in bits 3 to 0. From the high bit down
 -- they are N, Z, V and C.
 use Rattle.std.specs.Prelude.{ℕ, ◌+◌, ◌-◌, ◌*◌, ◌/◌, ◌%◌, ◌^◌, ◌==◌, Bool, false, not, pos, ◌+ℤ◌, ◌-ℤ◌, int_lt, nat_le, nat_lt}

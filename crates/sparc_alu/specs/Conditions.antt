@@ -1,4 +1,4 @@
--- When a condition is true: of the condition codes (SPARC V9, A.7, A.35, A.61) and of a register (A.3, A.36).
+-- When a condition is true: of the condition codes (SPARC V9, A.6, A.7, A.35, A.61) and of a register (A.3, A.36).
 use Rattle.std.specs.Prelude.{ℕ, ◌==◌, Bool, true, false, not, ◌||◌, if◌then◌else◌, ℤ, pos, int_lt, int_le, List, [], ◌∷◌}
 use Rattle.std.specs.Bool.{xor}
 use Rattle.std.specs.Ordering.{int_eq}

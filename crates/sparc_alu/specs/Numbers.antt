@@ -1,4 +1,4 @@
--- Numbers of 32 and 64 bits: their low bits, and integers in two's complement (SPARC V9, section 2).
+-- Numbers of 32 and 64 bits: their low bits, and integers in two's complement (SPARC V9, chapter 4).
 use Rattle.std.specs.Prelude.{ℕ, ◌-◌, ◌%◌, ◌^◌, Bool, ◌&&◌, ℤ, pos, negsuc, neg_ℤ, int_le, int_lt}
 use Rattle.sparc_decode.specs.Fields as field
 

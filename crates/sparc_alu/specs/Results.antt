@@ -75,10 +75,41 @@ value op.Popc a b cc y = count_ones b
 value op.Sethi a b cc y = b
 value op.Movcc a b cc y = b
 value op.Movr a b cc y = b
--- state registers: Y has 32 bits (A.44)
+-- state registers: Y has 32 bits (A.44, 5.1.3.2)
 value op.RdY a b cc y = low 32 y
 value op.RdCcr a b cc y = cc
-value _ a b cc y = 0
+-- branches, traps, jumps, barriers, writes of state registers and accesses to memory compute none
+value op.Trap a b cc y = 0
+value op.BPcc a b cc y = 0
+value op.Bicc a b cc y = 0
+value op.BPr a b cc y = 0
+value op.Call a b cc y = 0
+value op.RdPc a b cc y = 0
+value op.Membar a b cc y = 0
+value op.Stbar a b cc y = 0
+value op.Flushw a b cc y = 0
+value op.WrY a b cc y = 0
+value op.WrCcr a b cc y = 0
+value op.Jmpl a b cc y = 0
+value op.Return a b cc y = 0
+value op.Tcc a b cc y = 0
+value op.Flush a b cc y = 0
+value op.Lduw a b cc y = 0
+value op.Ldub a b cc y = 0
+value op.Lduh a b cc y = 0
+value op.Ldsw a b cc y = 0
+value op.Ldsb a b cc y = 0
+value op.Ldsh a b cc y = 0
+value op.Ldx a b cc y = 0
+value op.Stw a b cc y = 0
+value op.Stb a b cc y = 0
+value op.Sth a b cc y = 0
+value op.Stx a b cc y = 0
+value op.Ldstub a b cc y = 0
+value op.Swap a b cc y = 0
+value op.Prefetch a b cc y = 0
+value op.Casa a b cc y = 0
+value op.Casxa a b cc y = 0
 
 -- the condition codes: those of the result where the form sets them, else as they were
 unfoldable pub codes : Op → ℕ → ℕ → ℕ → ℕ
@@ -114,8 +145,18 @@ divides op.Udivx = true
 divides op.Sdivx = true
 divides _ = false
 
+-- what a form computes, divisions by 0 aside
+abbrev pub results : Op → ℕ → ℕ → ℕ → ℕ → AluOut
+results o a b cc y = record { value = value o a b cc y; cc = codes o a b cc; y = y_register o a b y }
+
 -- what a form computes: a division by 0 nothing
 abbrev pub computed : Op → ℕ → ℕ → ℕ → ℕ → Result AluOut DivisionByZero
-computed o a b cc y =
-    if divides o && b == 0 then Err (record {})
-    else Ok (record { value = value o a b cc y; cc = codes o a b cc; y = y_register o a b y })
+computed o a b cc y = if divides o && b == 0 then Err (record {}) else Ok (results o a b cc y)
+
+-- a value with the codes that it sets
+abbrev pub with_codes : ℕ → ℕ → AluOut → AluOut
+with_codes value cc kept = record kept { value = value; cc = cc }
+
+-- a product of words, whose high half is in Y too
+abbrev pub with_product : ℕ → AluOut → AluOut
+with_product product kept = record kept { value = product; y = product / 2 ^ 32 }

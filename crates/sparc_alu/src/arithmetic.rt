@@ -19,11 +19,11 @@ pub struct AluOut {
     /// The condition codes register after it: xcc in bits 7 to 4 and icc in bits 3 to 0, each of them
     /// N, Z, V, C from the high bit down (5.1.5).
     pub cc: u8,
-    /// The register Y after it.
+    /// The register Y after it (5.1.3.2).
     pub y: u64,
 }
 
-/// A division by 0, the trap 0x028 (A.10, A.37).
+/// A division by 0, the trap 0x028 (A.37).
 #[derive(Clone, Copy, Debug, PartialEq, Eq, Error)]
 #[error("division by zero")]
 pub struct DivisionByZero;
@@ -41,11 +41,7 @@ pub fn alu(op: Op, a: u64, b: u64, cc: u8, y: u64) -> Result<AluOut, DivisionByZ
     if divides(op) && b == 0 {
         return Err(DivisionByZero);
     }
-    Ok(AluOut {
-        value: value(op, a, b, cc, y),
-        cc: condition_codes(op, a, b, cc),
-        y: y_register(op, a, b, y),
-    })
+    Ok(results(op, a, b, cc, y))
 }
 
 #[tactic(auto, unfolding(crate::specs::Results::divides))]
@@ -55,74 +51,133 @@ fn divides(op: Op) -> bool
     matches!(op, Op::Udivx | Op::Sdivx)
 }
 
-/// The value for the register of rd.
-#[tactic(auto, unfolding(crate::specs::Results::value, crate::specs::Results::divides))]
-fn value(op: Op, a: u64, b: u64, cc: u8, y: u64) -> u64
+/// What the form computes, by its op. A division is by a number that is not 0.
+// Inlined, so that the three numbers stay in registers: a result in memory costs a tenth of a step.
+#[inline(always)]
+#[tactic(auto, unfolding(crate::specs::Results::value, crate::specs::Results::codes, crate::specs::Results::y_register, crate::specs::Results::divides))]
+fn results(op: Op, a: u64, b: u64, cc: u8, y: u64) -> AluOut
     requires { (calculated.divides op && b == 0) ≡ false }
-    ensures { result ≡ calculated.value op a b cc y }
+    ensures { result ≡ calculated.results op a b cc y }
 {
+    let kept = AluOut { value: 0, cc, y };
     match op {
-        Op::Add | Op::AddCc | Op::Save | Op::Restore => sum(a, b, 0),
-        Op::Addc | Op::AddcCc => sum(a, b, carry_in(cc)),
-        Op::Sub | Op::SubCc => difference(a, b, 0),
-        Op::Subc | Op::SubcCc => difference(a, b, carry_in(cc)),
-        Op::And | Op::AndCc => a & b,
-        Op::Andn | Op::AndnCc => a & !b,
-        Op::Or | Op::OrCc => a | b,
-        Op::Orn | Op::OrnCc => a | !b,
-        Op::Xor | Op::XorCc => a ^ b,
-        Op::Xnor | Op::XnorCc => !(a ^ b),
-        Op::Mulx => a.wrapping_mul(b),
-        Op::Umul | Op::UmulCc => unsigned_product(a, b),
-        Op::Smul | Op::SmulCc => signed_product(a, b),
-        Op::Udivx => a / b,
-        Op::Sdivx => signed_quotient(a, b),
-        Op::Sll => shifts::narrow_left(a, b),
-        Op::Srl => shifts::narrow_right(a, b),
-        Op::Sra => shifts::narrow_signed_right(a, b),
-        Op::Sllx => shifts::wide_left(a, b),
-        Op::Srlx => shifts::wide_right(a, b),
-        Op::Srax => shifts::wide_signed_right(a, b),
-        Op::Popc => u64::from(b.count_ones()),
-        Op::Sethi | Op::Movcc | Op::Movr => b,
-        Op::RdY => u64::from(low_word(y)),
-        Op::RdCcr => u64::from(cc),
-        _ => 0,
+        Op::Add | Op::Save | Op::Restore => kept.with_value(sum(a, b, 0)),
+        Op::Addc => kept.with_value(sum(a, b, carry_in(cc))),
+        Op::Sub => kept.with_value(difference(a, b, 0)),
+        Op::Subc => kept.with_value(difference(a, b, carry_in(cc))),
+        Op::AddCc => kept.with_codes(sum(a, b, 0), of_sum(a, b, 0)),
+        Op::AddcCc => kept.with_codes(sum(a, b, carry_in(cc)), of_sum(a, b, carry_in(cc))),
+        Op::SubCc => kept.with_codes(difference(a, b, 0), of_difference(a, b, 0)),
+        Op::SubcCc => kept.with_codes(
+            difference(a, b, carry_in(cc)),
+            of_difference(a, b, carry_in(cc)),
+        ),
+        Op::And => kept.with_value(a & b),
+        Op::Andn => kept.with_value(a & !b),
+        Op::Or => kept.with_value(a | b),
+        Op::Orn => kept.with_value(a | !b),
+        Op::Xor => kept.with_value(a ^ b),
+        Op::Xnor => kept.with_value(!(a ^ b)),
+        Op::AndCc => kept.with_codes(a & b, of_value(a & b)),
+        Op::AndnCc => kept.with_codes(a & !b, of_value(a & !b)),
+        Op::OrCc => kept.with_codes(a | b, of_value(a | b)),
+        Op::OrnCc => kept.with_codes(a | !b, of_value(a | !b)),
+        Op::XorCc => kept.with_codes(a ^ b, of_value(a ^ b)),
+        Op::XnorCc => kept.with_codes(!(a ^ b), of_value(!(a ^ b))),
+        Op::Mulx => kept.with_value(a.wrapping_mul(b)),
+        Op::Umul => kept.with_product(unsigned_product(a, b)),
+        Op::Smul => kept.with_product(signed_product(a, b)),
+        Op::UmulCc => {
+            let product = unsigned_product(a, b);
+            kept.with_product(product)
+                .with_codes(product, of_value(product))
+        }
+        Op::SmulCc => {
+            let product = signed_product(a, b);
+            kept.with_product(product)
+                .with_codes(product, of_value(product))
+        }
+        Op::Udivx => kept.with_value(a / b),
+        Op::Sdivx => kept.with_value(signed_quotient(a, b)),
+        Op::Sll => kept.with_value(shifts::narrow_left(a, b)),
+        Op::Srl => kept.with_value(shifts::narrow_right(a, b)),
+        Op::Sra => kept.with_value(shifts::narrow_signed_right(a, b)),
+        Op::Sllx => kept.with_value(shifts::wide_left(a, b)),
+        Op::Srlx => kept.with_value(shifts::wide_right(a, b)),
+        Op::Srax => kept.with_value(shifts::wide_signed_right(a, b)),
+        Op::Popc => kept.with_value(u64::from(b.count_ones())),
+        Op::Sethi | Op::Movcc | Op::Movr => kept.with_value(b),
+        Op::RdY => kept.with_value(u64::from(low_word(y))),
+        Op::RdCcr => kept.with_value(u64::from(cc)),
+        Op::WrCcr => AluOut {
+            cc: low_byte(a ^ b),
+            ..kept
+        },
+        Op::WrY => AluOut {
+            y: u64::from(low_word(a ^ b)),
+            ..kept
+        },
+        // branches, jumps, traps and barriers
+        Op::Trap
+        | Op::BPcc
+        | Op::Bicc
+        | Op::BPr
+        | Op::Call
+        | Op::RdPc
+        | Op::Membar
+        | Op::Stbar
+        | Op::Flushw
+        | Op::Jmpl
+        | Op::Return
+        | Op::Tcc
+        | Op::Flush => kept,
+        // accesses to memory
+        Op::Lduw
+        | Op::Ldub
+        | Op::Lduh
+        | Op::Ldsw
+        | Op::Ldsb
+        | Op::Ldsh
+        | Op::Ldx
+        | Op::Stw
+        | Op::Stb
+        | Op::Sth
+        | Op::Stx
+        | Op::Ldstub
+        | Op::Swap
+        | Op::Prefetch
+        | Op::Casa
+        | Op::Casxa => kept,
     }
 }
 
-/// The condition codes register after it.
-#[tactic(auto, unfolding(crate::specs::Results::codes))]
-fn condition_codes(op: Op, a: u64, b: u64, cc: u8) -> u8
-    ensures { result ≡ calculated.codes op a b cc }
-{
-    match op {
-        Op::AddCc => of_sum(a, b, 0),
-        Op::AddcCc => of_sum(a, b, carry_in(cc)),
-        Op::SubCc => of_difference(a, b, 0),
-        Op::SubcCc => of_difference(a, b, carry_in(cc)),
-        Op::AndCc => of_value(a & b),
-        Op::AndnCc => of_value(a & !b),
-        Op::OrCc => of_value(a | b),
-        Op::OrnCc => of_value(a | !b),
-        Op::XorCc => of_value(a ^ b),
-        Op::XnorCc => of_value(!(a ^ b)),
-        Op::UmulCc => of_value(unsigned_product(a, b)),
-        Op::SmulCc => of_value(signed_product(a, b)),
-        Op::WrCcr => low_byte(a ^ b),
-        _ => cc,
+impl AluOut {
+    /// The same codes and Y with this value.
+    fn with_value(self, value: u64) -> Self
+        ensures { result ≡ record self { value = value } }
+    {
+        Self { value, ..self }
     }
-}
 
-/// The register Y after it.
-#[tactic(auto, unfolding(crate::specs::Results::y_register))]
-fn y_register(op: Op, a: u64, b: u64, y: u64) -> u64
-    ensures { result ≡ calculated.y_register op a b y }
-{
-    match op {
-        Op::Umul | Op::UmulCc => unsigned_product(a, b) >> 32,
-        Op::Smul | Op::SmulCc => signed_product(a, b) >> 32,
-        Op::WrY => u64::from(low_word(a ^ b)),
-        _ => y,
+    /// The same Y with this value and these codes.
+    fn with_codes(self, value: u64, codes: u8) -> Self
+        ensures { result ≡ calculated.with_codes value codes self }
+    {
+        Self {
+            value,
+            cc: codes,
+            ..self
+        }
+    }
+
+    /// The same codes with this product as the value and its high half in Y.
+    fn with_product(self, product: u64) -> Self
+        ensures { result ≡ calculated.with_product product self }
+    {
+        Self {
+            value: product,
+            y: product >> 32,
+            ..self
+        }
     }
 }

@@ -1,4 +1,4 @@
-//! The condition codes of results (SPARC V9, 5.1.5.1).
+//! The condition codes of results (SPARC V9, 5.1.5).
 
 ghost use Rattle.std.specs.Prelude.{◌≡◌, ◌<◌, ◌+◌, ◌*◌, pos, ◌+ℤ◌, ◌-ℤ◌};
 ghost use Rattle.sparc_alu.specs.Codes as code;

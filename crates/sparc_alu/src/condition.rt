@@ -1,4 +1,4 @@
-//! Conditions of branches, moves and traps (SPARC V9, A.3, A.7, A.35, A.36, A.61).
+//! Conditions of branches, moves and traps (SPARC V9, A.3, A.6, A.7, A.35, A.36, A.61).
 
 ghost use Rattle.std.specs.Prelude.{◌≡◌};
 ghost use Rattle.sparc_alu.specs.Codes as code;
@@ -28,7 +28,7 @@ fn codes_for(i: &Instr, cc: u8) -> u8
     if i.extended { cc >> 4 } else { cc & 0xf }
 }
 
-/// A condition on four codes (A.7).
+/// A condition on four codes (A.6, A.7).
 fn holds(number: u8, codes: u8) -> bool
     ensures { result ≡ condition.holds number codes }
 {

@@ -14,6 +14,7 @@ pub use access::{cas_result, effective, load_extend};
 pub use arithmetic::{AluOut, DivisionByZero, alu};
 pub use condition::branch_taken;
 pub use laws::{conditions_have_opposites, subtraction_compares};
+pub use numbers::bits_of;
 
 #[cfg(test)]
 mod tests;

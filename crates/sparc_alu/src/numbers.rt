@@ -1,4 +1,4 @@
-//! The low bits of 64-bit numbers, unsigned and in two's complement (SPARC V9, section 2); sums and differences
+//! The low bits of 64-bit numbers, unsigned and in two's complement (SPARC V9, chapter 4); sums and differences
 //! modulo 2^64.
 
 ghost use Rattle.std.specs.Prelude.{◌≡◌, ◌<◌};
@@ -47,7 +47,7 @@ pub fn signed_value(n: u64) -> i64
     n.cast_signed()
 }
 
-/// The 64 bits of a signed number.
+/// The 64 bits of a signed number in two's complement, as an unsigned number (SPARC V9, chapter 4).
 pub fn bits_of(z: i64) -> u64
     ensures { result ≡ twos_complement z }
 {

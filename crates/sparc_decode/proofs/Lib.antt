@@ -1,4 +1,2 @@
 pub mod Looks
-pub mod Ranges
 pub mod Tables
-pub mod Unused

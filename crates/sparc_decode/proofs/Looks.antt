@@ -168,6 +168,12 @@ pub shift_by_count_same : (narrow wide : Op) (v w : ℕ) → field.bits 29 25 v 
 unfolding form.shift
 shift_by_count_same narrow wide v w rd rs1 i x wide_count narrow_count = rw (rd, rs1, i, x, wide_count, narrow_count) refl
 
+pub narrow_shift_same : (narrow wide : Op) (v w : ℕ) → field.bits 29 25 v ≡ field.bits 29 25 w → field.bits 18 14 v ≡ field.bits 18 14 w
+    → field.bits 13 13 v ≡ field.bits 13 13 w → field.x v ≡ false → field.x w ≡ false → field.bits 4 0 v ≡ field.bits 4 0 w
+    → form.shift narrow wide v ≡ form.shift narrow wide w
+unfolding form.shift
+narrow_shift_same narrow wide v w rd rs1 i old_x new_x count = rw (old_x, new_x, rd, rs1, i, count) refl
+
 pub tcc_on_registers_same : (v w : ℕ) → field.bits 28 25 v ≡ field.bits 28 25 w → field.bits 18 14 v ≡ field.bits 18 14 w
     → field.i v ≡ false → field.i w ≡ false → field.bits 12 11 v ≡ field.bits 12 11 w
     → field.bits 4 0 v ≡ field.bits 4 0 w → form.tcc v ≡ form.tcc w
@@ -189,12 +195,30 @@ to_rd_same : (o : Op) (v w : ℕ) → field.bits 29 25 v ≡ field.bits 29 25 w 
 unfolding form.to_rd
 to_rd_same o v w rd = rw rd refl
 
+read_state_with : (v w : ℕ) → field.bits 29 25 v ≡ field.bits 29 25 w → field.bits 18 14 v ≡ field.bits 18 14 w
+    → form.barrier v ≡ form.barrier w → form.read_state v ≡ form.read_state w
+unfolding form.read_state
+read_state_with v w rd rs1 barrier =
+    rw (rs1, to_rd_same op.RdY v w rd, to_rd_same op.RdCcr v w rd, to_rd_same op.RdPc v w rd, barrier) refl
+
 pub read_state_same : (v w : ℕ) → field.bits 29 25 v ≡ field.bits 29 25 w → field.bits 18 14 v ≡ field.bits 18 14 w
     → field.bits 13 13 v ≡ field.bits 13 13 w → field.bits 6 4 v ≡ field.bits 6 4 w
     → field.bits 3 0 v ≡ field.bits 3 0 w → form.read_state v ≡ form.read_state w
+read_state_same v w rd rs1 i cmask mmask = read_state_with v w rd rs1 (barrier_same v w rd i cmask mmask)
+
+pub register_read_same : (v w : ℕ) → field.bits 29 25 v ≡ field.bits 29 25 w → field.bits 18 14 v ≡ field.bits 18 14 w
+    → (field.rs1 w == 15) ≡ false → form.read_state v ≡ form.read_state w
 unfolding form.read_state
-read_state_same v w rd rs1 i cmask mmask =
-    rw (rs1, to_rd_same op.RdY v w rd, to_rd_same op.RdCcr v w rd, to_rd_same op.RdPc v w rd, barrier_same v w rd i cmask mmask) refl
+register_read_same v w rd rs1 other =
+    rw (rs1, to_rd_same op.RdY v w rd, to_rd_same op.RdCcr v w rd, to_rd_same op.RdPc v w rd, other) refl
+
+store_barrier_same : (v w : ℕ) → field.bits 29 25 v ≡ field.bits 29 25 w → field.i v ≡ false → field.i w ≡ false → form.barrier v ≡ form.barrier w
+unfolding form.barrier
+store_barrier_same v w rd old_i new_i = rw (rd, old_i, new_i) refl
+
+pub read_state_without_i_same : (v w : ℕ) → field.bits 29 25 v ≡ field.bits 29 25 w → field.bits 18 14 v ≡ field.bits 18 14 w
+    → field.i v ≡ false → field.i w ≡ false → form.read_state v ≡ form.read_state w
+read_state_without_i_same v w rd rs1 old_i new_i = read_state_with v w rd rs1 (store_barrier_same v w rd old_i new_i)
 
 pub prefetch_same : (v w : ℕ) → field.bits 29 25 v ≡ field.bits 29 25 w → form.prefetch v ≡ form.prefetch w
 unfolding form.prefetch

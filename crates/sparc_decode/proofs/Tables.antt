@@ -1,9 +1,9 @@
 -- What the rows of a table say of the instructions that it gives, and tables in which no two rows have the same key:
 -- each row is the one that is found for its key.
-use Rattle.std.specs.Prelude.{◌≡◌, ◌≢◌, ◌<◌, ℕ, zero, suc, Bool, true, false, ◌==◌, ◌&&◌, not, if◌then◌else◌, List, [], ◌∷◌, length, AllPairs, slice_index_or}
-use Rattle.std.specs.List.{AllByRecursion}
-use Rattle.std.proofs.Common.{arith, refl}
+use Rattle.std.specs.Prelude.{◌≡◌, ◌≢◌, ◌<◌, ℕ, zero, suc, Bool, true, false, ◌==◌, ◌&&◌, not, if◌then◌else◌, List, [], ◌∷◌, length, AllPairs, slice_index_or, All}
+use Rattle.std.proofs.Common.{arith, refl, sym}
 use Rattle.std.proofs.lemmas.Bool.Decides.{nat_tests}
+use Rattle.std.proofs.lemmas.List.Elements.{All-head, All-tail}
 use Rattle.sparc_decode.specs.declared.instr.Instr.{Instr}
 use Rattle.sparc_decode.specs.Forms as form
 use Rattle.sparc_decode.specs.Instr.{Row, by_row}
@@ -17,12 +17,6 @@ a also b = (a, b)
 pub either_of : (P : Instr → Type 0) (b : Bool) (x y : Instr) → P x → P y → P (if b then x else y)
 either_of P true x y p q = p
 either_of P false x y p q = q
-
--- what holds of the instructions of all rows, and of illegal_instruction, holds of the one that a table gives
-pub rows_of : (P : Instr → Type 0) (rows : List Row) (key word : ℕ) → P (form.ill 0x010) → AllByRecursion (λ (row : Row). P (row.1 word)) rows
-    → P (by_row rows key word)
-rows_of P [] key word p h = p
-rows_of P (row ∷ rows) key word p h = either_of P (row.0 == key) _ _ h.0 (rows_of P rows key word p h.1)
 
 -- no row has this key
 abbrev pub is_fresh : ℕ → List Row → Bool
@@ -69,3 +63,10 @@ found_at (row ∷ rows) zero d word e h = rw (same_test row.0) refl
 found_at (row ∷ rows) (suc n) d word e h =
     let apart = fresh_at row.0 rows n d (and_first _ _ e) (omega arith) in
     rw (unlike_test _ _ apart) (found_at rows n d word (and_second (is_fresh row.0 rows) _ e) (omega arith))
+
+-- a key that no row has is illegal_instruction
+pub none_found : (rows : List Row) (key word : ℕ) → All (λ (row : Row). key ≢ row.0) rows → by_row rows key word ≡ form.ill 0x010
+none_found [] key word none = refl
+none_found (row ∷ rows) key word none =
+    let unlike = λ (same : row.0 ≡ key). All-head (λ (r : Row). key ≢ r.0) row rows none (sym same) in
+    rw (unlike_test _ _ unlike) (none_found rows key word (All-tail (λ (r : Row). key ≢ r.0) row rows none))

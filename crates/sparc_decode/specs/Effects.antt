@@ -5,60 +5,141 @@ use Rattle.sparc_decode.specs.declared.instr.Op.{Op}
 use Rattle.sparc_decode.specs.declared.instr.Op.TheVariants as op
 use Rattle.sparc_decode.specs.declared.instr.Src2.{Src2}
 use Rattle.sparc_decode.specs.declared.instr.Src2.TheVariants.{Reg, Imm}
+use Rattle.sparc_decode.specs.declared.registers.RegisterUse.{RegisterUse}
+use Rattle.sparc_decode.specs.declared.registers.RegisterUse.TheVariants as use_of
 use Rattle.sparc_decode.specs.declared.operands.Sources.{Sources}
 use Rattle.sparc_decode.specs.declared.operands.Dest.{Dest}
 use Rattle.sparc_decode.specs.declared.operands.WindowEffect.{WindowEffect}
 use Rattle.sparc_decode.specs.declared.operands.WindowEffect.TheVariants as window
 
--- all forms but these read the register of rs1
+-- Which registers the instructions of a form use. Each form is named here, so that a new one gets no use unasked.
+abbrev pub registers_of : Op → RegisterUse
+-- none
+registers_of op.Trap = use_of.Nothing
+registers_of op.BPcc = use_of.Nothing
+registers_of op.Bicc = use_of.Nothing
+registers_of op.Call = use_of.Nothing
+registers_of op.Membar = use_of.Nothing
+registers_of op.Stbar = use_of.Nothing
+registers_of op.Flushw = use_of.Nothing
+registers_of op.Flush = use_of.Nothing
+registers_of op.Prefetch = use_of.Nothing
+-- rs1 is read
+registers_of op.BPr = use_of.ReadRs1
+-- rs1 and operand 2 are read
+registers_of op.WrY = use_of.ReadTwo
+registers_of op.WrCcr = use_of.ReadTwo
+registers_of op.Return = use_of.ReadTwo
+registers_of op.Tcc = use_of.ReadTwo
+-- and rd: stores
+registers_of op.Stw = use_of.ReadThree
+registers_of op.Stb = use_of.ReadThree
+registers_of op.Sth = use_of.ReadThree
+registers_of op.Stx = use_of.ReadThree
+-- rd is written
+registers_of op.Sethi = use_of.Write
+registers_of op.RdY = use_of.Write
+registers_of op.RdCcr = use_of.Write
+registers_of op.RdPc = use_of.Write
+-- rd is written from operand 2
+registers_of op.Popc = use_of.FromOperand2
+-- rd is written from rs1 and operand 2
+registers_of op.Add = use_of.FromTwo
+registers_of op.And = use_of.FromTwo
+registers_of op.Or = use_of.FromTwo
+registers_of op.Xor = use_of.FromTwo
+registers_of op.Sub = use_of.FromTwo
+registers_of op.Andn = use_of.FromTwo
+registers_of op.Orn = use_of.FromTwo
+registers_of op.Xnor = use_of.FromTwo
+registers_of op.Addc = use_of.FromTwo
+registers_of op.Subc = use_of.FromTwo
+registers_of op.Mulx = use_of.FromTwo
+registers_of op.Umul = use_of.FromTwo
+registers_of op.Smul = use_of.FromTwo
+registers_of op.Udivx = use_of.FromTwo
+registers_of op.Sdivx = use_of.FromTwo
+registers_of op.AddCc = use_of.FromTwo
+registers_of op.AndCc = use_of.FromTwo
+registers_of op.OrCc = use_of.FromTwo
+registers_of op.XorCc = use_of.FromTwo
+registers_of op.SubCc = use_of.FromTwo
+registers_of op.AndnCc = use_of.FromTwo
+registers_of op.OrnCc = use_of.FromTwo
+registers_of op.XnorCc = use_of.FromTwo
+registers_of op.AddcCc = use_of.FromTwo
+registers_of op.UmulCc = use_of.FromTwo
+registers_of op.SmulCc = use_of.FromTwo
+registers_of op.SubcCc = use_of.FromTwo
+registers_of op.Sll = use_of.FromTwo
+registers_of op.Srl = use_of.FromTwo
+registers_of op.Sra = use_of.FromTwo
+registers_of op.Sllx = use_of.FromTwo
+registers_of op.Srlx = use_of.FromTwo
+registers_of op.Srax = use_of.FromTwo
+registers_of op.Jmpl = use_of.FromTwo
+registers_of op.Save = use_of.FromTwo
+registers_of op.Restore = use_of.FromTwo
+registers_of op.Lduw = use_of.FromTwo
+registers_of op.Ldub = use_of.FromTwo
+registers_of op.Lduh = use_of.FromTwo
+registers_of op.Ldsw = use_of.FromTwo
+registers_of op.Ldsb = use_of.FromTwo
+registers_of op.Ldsh = use_of.FromTwo
+registers_of op.Ldx = use_of.FromTwo
+registers_of op.Ldstub = use_of.FromTwo
+-- rd is written from operand 2, or left as it is
+registers_of op.Movcc = use_of.FromOperand2AndRd
+-- rd is written from rs1, operand 2 and rd: exchanges, and a move that may leave rd as it is
+registers_of op.Movr = use_of.FromThree
+registers_of op.Swap = use_of.FromThree
+registers_of op.Casa = use_of.FromThree
+registers_of op.Casxa = use_of.FromThree
+
+abbrev pub use_reads_rs1 : RegisterUse → Bool
+use_reads_rs1 use_of.Nothing = false
+use_reads_rs1 use_of.ReadRs1 = true
+use_reads_rs1 use_of.ReadTwo = true
+use_reads_rs1 use_of.ReadThree = true
+use_reads_rs1 use_of.Write = false
+use_reads_rs1 use_of.FromOperand2 = false
+use_reads_rs1 use_of.FromTwo = true
+use_reads_rs1 use_of.FromOperand2AndRd = false
+use_reads_rs1 use_of.FromThree = true
+
+-- the form reads the register of rs1
 unfoldable pub reads_rs1 : Op → Bool
-reads_rs1 op.Trap = false
-reads_rs1 op.BPcc = false
-reads_rs1 op.Bicc = false
-reads_rs1 op.Sethi = false
-reads_rs1 op.Call = false
-reads_rs1 op.RdY = false
-reads_rs1 op.RdCcr = false
-reads_rs1 op.RdPc = false
-reads_rs1 op.Membar = false
-reads_rs1 op.Stbar = false
-reads_rs1 op.Flushw = false
-reads_rs1 op.Movcc = false
-reads_rs1 op.Popc = false
-reads_rs1 op.Flush = false
-reads_rs1 op.Prefetch = false
-reads_rs1 _ = true
+reads_rs1 o = use_reads_rs1 (registers_of o)
 
--- all forms but these use operand 2
+abbrev pub use_reads_src2 : RegisterUse → Bool
+use_reads_src2 use_of.Nothing = false
+use_reads_src2 use_of.ReadRs1 = false
+use_reads_src2 use_of.ReadTwo = true
+use_reads_src2 use_of.ReadThree = true
+use_reads_src2 use_of.Write = false
+use_reads_src2 use_of.FromOperand2 = true
+use_reads_src2 use_of.FromTwo = true
+use_reads_src2 use_of.FromOperand2AndRd = true
+use_reads_src2 use_of.FromThree = true
+
+-- the form uses operand 2
 unfoldable pub reads_src2 : Op → Bool
-reads_src2 op.Trap = false
-reads_src2 op.BPcc = false
-reads_src2 op.Bicc = false
-reads_src2 op.BPr = false
-reads_src2 op.Sethi = false
-reads_src2 op.Call = false
-reads_src2 op.RdY = false
-reads_src2 op.RdCcr = false
-reads_src2 op.RdPc = false
-reads_src2 op.Membar = false
-reads_src2 op.Stbar = false
-reads_src2 op.Flushw = false
-reads_src2 op.Flush = false
-reads_src2 op.Prefetch = false
-reads_src2 _ = true
+reads_src2 o = use_reads_src2 (registers_of o)
 
--- stores and exchanges read the register of rd, and so do moves, which may leave it as it is
+abbrev pub use_reads_rd : RegisterUse → Bool
+use_reads_rd use_of.Nothing = false
+use_reads_rd use_of.ReadRs1 = false
+use_reads_rd use_of.ReadTwo = false
+use_reads_rd use_of.ReadThree = true
+use_reads_rd use_of.Write = false
+use_reads_rd use_of.FromOperand2 = false
+use_reads_rd use_of.FromTwo = false
+use_reads_rd use_of.FromOperand2AndRd = true
+use_reads_rd use_of.FromThree = true
+
+-- the form reads the register of rd: stores and exchanges do, and so do moves, which may leave it as it is
 unfoldable pub reads_rd : Op → Bool
-reads_rd op.Stw = true
-reads_rd op.Stb = true
-reads_rd op.Sth = true
-reads_rd op.Stx = true
-reads_rd op.Swap = true
-reads_rd op.Casa = true
-reads_rd op.Casxa = true
-reads_rd op.Movcc = true
-reads_rd op.Movr = true
-reads_rd _ = false
+reads_rd o = use_reads_rd (registers_of o)
 
 -- a condition looks at the codes unless it is never, 0, or always, 8
 abbrev pub looks_at_codes : ℕ → Bool
@@ -81,27 +162,20 @@ unfoldable pub reads_y : Op → Bool
 reads_y op.RdY = true
 reads_y _ = false
 
--- all forms but these write the register of rd
+abbrev pub use_writes_rd : RegisterUse → Bool
+use_writes_rd use_of.Nothing = false
+use_writes_rd use_of.ReadRs1 = false
+use_writes_rd use_of.ReadTwo = false
+use_writes_rd use_of.ReadThree = false
+use_writes_rd use_of.Write = true
+use_writes_rd use_of.FromOperand2 = true
+use_writes_rd use_of.FromTwo = true
+use_writes_rd use_of.FromOperand2AndRd = true
+use_writes_rd use_of.FromThree = true
+
+-- the form writes the register of rd
 unfoldable pub writes_rd : Op → Bool
-writes_rd op.Trap = false
-writes_rd op.BPcc = false
-writes_rd op.Bicc = false
-writes_rd op.BPr = false
-writes_rd op.Call = false
-writes_rd op.Membar = false
-writes_rd op.Stbar = false
-writes_rd op.Flushw = false
-writes_rd op.WrY = false
-writes_rd op.WrCcr = false
-writes_rd op.Return = false
-writes_rd op.Tcc = false
-writes_rd op.Flush = false
-writes_rd op.Stw = false
-writes_rd op.Stb = false
-writes_rd op.Sth = false
-writes_rd op.Stx = false
-writes_rd op.Prefetch = false
-writes_rd _ = true
+writes_rd o = use_writes_rd (registers_of o)
 
 unfoldable pub writes_cc : Op → Bool
 writes_cc op.AddCc = true

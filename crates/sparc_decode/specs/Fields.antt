@@ -1,4 +1,4 @@
--- The fields of an instruction word (SPARC V9, section 6.2). Bit 0 is the lowest bit of a word of 32.
+-- The fields of an instruction word (SPARC V9, 6.2). Bit 0 is the lowest bit of a word of 32.
 use Rattle.std.specs.Prelude.{ℕ, Bool, ◌+◌, ◌-◌, ◌*◌, ◌/◌, ◌%◌, ◌^◌, ◌==◌, ℤ, pos, ◌-ℤ◌, nat_lt, if◌then◌else◌}
 
 -- bits high to low of a word, as a number

@@ -25,7 +25,7 @@ plain o = record {
 }
 
 -- the trap with this number: 0x010 is illegal_instruction, 0x011 privileged_opcode and 0x020 fp_disabled
--- (section 7)
+-- (chapter 7)
 abbrev pub ill : ℕ → Instr
 ill number = record (plain Trap) { trap = number }
 

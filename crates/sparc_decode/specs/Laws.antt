@@ -1,7 +1,11 @@
--- Laws of the tables: no word fits two rows, and bits that a form does not name are not looked at.
-use Rattle.std.specs.Prelude.{◌≡◌, ◌≢◌, ℕ, Bool, true, ◌==◌, ◌&&◌, not, nat_lt, List, [], ◌∷◌, All, AllPairs, ⊤}
+-- Laws of the opcode maps: no word fits two rows, a word without a row is illegal_instruction, bits that a form
+-- does not name are not looked at, and the fields of each instruction are in range.
+use Rattle.std.specs.Prelude.{◌≡◌, ◌≢◌, ℕ, Bool, true, false, ◌==◌, ◌&&◌, not, nat_lt, List, [], ◌∷◌, All, AllPairs, ⊤}
+use Rattle.sparc_decode.specs.Effects.{reads_rd, writes_rd}
 use Rattle.sparc_decode.specs.Fields as field
+use Rattle.sparc_decode.specs.Forms as form
 use Rattle.sparc_decode.specs.Instr.{Row, instr}
+use Rattle.sparc_decode.specs.Ranges.{IsInRange}
 
 -- no two rows of a table have the same key
 abbrev pub KeysDiffer : List Row → Type 0
@@ -10,6 +14,10 @@ KeysDiffer rows = AllPairs (λ row later. row.0 ≢ later.0) rows
 -- each row of the table of this op says what the words are that it fits, wherever it stands
 abbrev pub EachRowDecides : ℕ → (ℕ → ℕ) → List Row → Type 0
 EachRowDecides code key rows = All (λ row. (word : ℕ) → field.op word ≡ code → key word ≡ row.0 → instr word ≡ row.1 word) rows
+
+-- a word of this op whose key no row of its table has is illegal_instruction
+abbrev pub OthersAreIllegal : ℕ → (ℕ → ℕ) → List Row → Type 0
+OthersAreIllegal code key rows = (word : ℕ) → field.op word ≡ code → All (λ row. key word ≢ row.0) rows → instr word ≡ form.ill 0x010
 
 -- two words have the same bits in each of these ranges, written high and low
 abbrev pub SameIn : List (ℕ × ℕ) → ℕ → ℕ → Type 0
@@ -49,6 +57,12 @@ abbrev pub ShiftsByCounts : ℕ → Type 0
 ShiftsByCounts place = LooksOnlyAt
     ((31, 30) ∷ (29, 25) ∷ (24, 19) ∷ (18, 14) ∷ (13, 13) ∷ (12, 12) ∷ (5, 0) ∷ (4, 0) ∷ [])
     (is_arithmetic place)
+
+-- shifts of 32 bits, with bit 12 clear, by a register or a count: bits 11 to 5 are not looked at
+abbrev pub NarrowShifts : ℕ → Type 0
+NarrowShifts place = LooksOnlyAt
+    ((31, 30) ∷ (29, 25) ∷ (24, 19) ∷ (18, 14) ∷ (13, 13) ∷ (12, 12) ∷ (4, 0) ∷ [])
+    (λ word. is_arithmetic place word && not (field.x word))
 
 -- other forms with rd, rs1 and a register as operand 2: bits 12 to 5 are not looked at
 abbrev pub OperandsInRegisters : ℕ → Type 0
@@ -97,6 +111,18 @@ StateReads = LooksOnlyAt
     ((31, 30) ∷ (29, 25) ∷ (24, 19) ∷ (18, 14) ∷ (13, 13) ∷ (6, 4) ∷ (3, 0) ∷ [])
     (is_arithmetic 0x28)
 
+-- reads of state, all but rs1 15: bits 13 to 0 are not looked at
+abbrev pub RegisterReads : Type 0
+RegisterReads = LooksOnlyAt
+    ((31, 30) ∷ (29, 25) ∷ (24, 19) ∷ (18, 14) ∷ [])
+    (λ word. is_arithmetic 0x28 word && not (field.rs1 word == 15))
+
+-- STBAR, rs1 15 with i clear: bits 12 to 0 are not looked at
+abbrev pub StoreBarriers : Type 0
+StoreBarriers = LooksOnlyAt
+    ((31, 30) ∷ (29, 25) ∷ (24, 19) ∷ (18, 14) ∷ (13, 13) ∷ [])
+    (λ word. is_arithmetic 0x28 word && field.rs1 word == 15 && not (field.i word))
+
 -- FLUSHW and FLUSH: nothing but the place in the opcode map
 abbrev pub Flushes : ℕ → Type 0
 Flushes place = LooksOnlyAt ((31, 30) ∷ (24, 19) ∷ []) (is_arithmetic place)
@@ -106,3 +132,11 @@ abbrev pub Prefetches : Type 0
 Prefetches = LooksOnlyAt
     ((31, 30) ∷ (29, 25) ∷ (24, 19) ∷ [])
     (λ word. field.op word == 3 && field.op3 word == 0x2D)
+
+-- the fields of each word's instruction are in range
+abbrev pub InRange : Type 0
+InRange = (word : ℕ) → IsInRange (instr word)
+
+-- where a form neither reads nor writes the register of rd, rd is 0
+abbrev pub UnusedRd : Type 0
+UnusedRd = (word : ℕ) → reads_rd (instr word).op ≡ false → writes_rd (instr word).op ≡ false → (instr word).rd ≡ 0

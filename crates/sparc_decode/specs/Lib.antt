@@ -1,4 +1,5 @@
 pub mod Effects
+pub mod Facts
 pub mod Fields
 pub mod Forms
 pub mod Instr

@@ -10,8 +10,8 @@ use crate::forms::{
 };
 use crate::instr::{Instr, Op, Src2};
 
-/// The words with op 2 (appendix E). Forms with rd, rs1 and operand 2 are those of A.2, A.10, A.24,
-/// A.31, A.37, A.38, A.46 and A.56.
+/// The words with op 2 (appendix E). Forms with rd, rs1 and operand 2 are those of A.2, A.24, A.31, A.37,
+/// A.38, A.46 and A.56.
 #[tactic(auto, unfolding(crate::specs::Instr::arithmetic))]
 pub fn arithmetic(word: u32) -> Instr
     ensures { result ≡ table.arithmetic word }

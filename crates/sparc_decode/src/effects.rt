@@ -5,14 +5,21 @@ ghost use Rattle.sparc_decode.specs.Effects as effect;
 
 use crate::instr::{Instr, Op, Src2};
 use crate::operands::{Dest, Sources, WindowEffect};
+use crate::registers::RegisterUse;
 
 /// What the instruction reads.
+#[tactic(auto, unfolding(crate::specs::Effects::reads_rs1, crate::specs::Effects::reads_src2))]
 pub fn sources(i: &Instr) -> Sources
     ensures { result ≡ effect.sources_of i.now }
 {
+    let registers = RegisterUse::of(i.op);
     Sources {
-        a: if reads_rs1(i.op) { Some(i.rs1) } else { None },
-        b: if reads_src2(i.op) {
+        a: if registers.reads_rs1() {
+            Some(i.rs1)
+        } else {
+            None
+        },
+        b: if registers.reads_src2() {
             register(i.src2)
         } else {
             None
@@ -56,91 +63,26 @@ fn register(operand: Src2) -> Option<u8>
     }
 }
 
-#[tactic(auto, unfolding(crate::specs::Effects::third_of_form))]
+#[tactic(auto, unfolding(crate::specs::Effects::third_of_form, crate::specs::Effects::reads_rd))]
 fn third_register(i: &Instr) -> Option<u8>
     ensures { result ≡ effect.third_of i.now }
 {
     match i.op {
         Op::Tcc => Some(8),
-        op if reads_rd(op) => Some(i.rd),
+        op if RegisterUse::of(op).reads_rd() => Some(i.rd),
         _ => None,
     }
 }
 
-#[tactic(auto, unfolding(crate::specs::Effects::written_by_form))]
+#[tactic(auto, unfolding(crate::specs::Effects::written_by_form, crate::specs::Effects::writes_rd))]
 fn written(i: &Instr) -> Option<u8>
     ensures { result ≡ effect.written_of i.now }
 {
     match i.op {
         Op::Call => Some(15),
-        op if writes_rd(op) && i.rd != 0 => Some(i.rd),
+        op if RegisterUse::of(op).writes_rd() && i.rd != 0 => Some(i.rd),
         _ => None,
     }
-}
-
-#[tactic(auto, unfolding(crate::specs::Effects::reads_rs1))]
-fn reads_rs1(op: Op) -> bool
-    ensures { result ≡ effect.reads_rs1 op }
-{
-    match op {
-        Op::Trap
-        | Op::BPcc
-        | Op::Bicc
-        | Op::Sethi
-        | Op::Call
-        | Op::RdY
-        | Op::RdCcr
-        | Op::RdPc
-        | Op::Membar
-        | Op::Stbar
-        | Op::Flushw
-        | Op::Movcc
-        | Op::Popc
-        | Op::Flush
-        | Op::Prefetch => false,
-        _ => true,
-    }
-}
-
-#[tactic(auto, unfolding(crate::specs::Effects::reads_src2))]
-fn reads_src2(op: Op) -> bool
-    ensures { result ≡ effect.reads_src2 op }
-{
-    match op {
-        Op::Trap
-        | Op::BPcc
-        | Op::Bicc
-        | Op::BPr
-        | Op::Sethi
-        | Op::Call
-        | Op::RdY
-        | Op::RdCcr
-        | Op::RdPc
-        | Op::Membar
-        | Op::Stbar
-        | Op::Flushw
-        | Op::Flush
-        | Op::Prefetch => false,
-        _ => true,
-    }
-}
-
-#[tactic(auto, unfolding(crate::specs::Effects::reads_rd))]
-fn reads_rd(op: Op) -> bool
-    ensures { result ≡ effect.reads_rd op }
-{
-    matches!(
-        op,
-        Op::Stw
-            | Op::Stb
-            | Op::Sth
-            | Op::Stx
-            | Op::Swap
-            | Op::Casa
-            | Op::Casxa
-            | Op::Movcc
-            | Op::Movr
-    )
 }
 
 #[tactic(auto, unfolding(crate::specs::Effects::reads_cc))]
@@ -159,33 +101,6 @@ fn reads_y(op: Op) -> bool
     ensures { result ≡ effect.reads_y op }
 {
     matches!(op, Op::RdY)
-}
-
-#[tactic(auto, unfolding(crate::specs::Effects::writes_rd))]
-fn writes_rd(op: Op) -> bool
-    ensures { result ≡ effect.writes_rd op }
-{
-    match op {
-        Op::Trap
-        | Op::BPcc
-        | Op::Bicc
-        | Op::BPr
-        | Op::Call
-        | Op::Membar
-        | Op::Stbar
-        | Op::Flushw
-        | Op::WrY
-        | Op::WrCcr
-        | Op::Return
-        | Op::Tcc
-        | Op::Flush
-        | Op::Stw
-        | Op::Stb
-        | Op::Sth
-        | Op::Stx
-        | Op::Prefetch => false,
-        _ => true,
-    }
 }
 
 #[tactic(auto, unfolding(crate::specs::Effects::writes_cc))]

@@ -1,4 +1,4 @@
-//! The fields of an instruction word, by their names in the manual (SPARC V9, section 6.2).
+//! The fields of an instruction word, by their names in the manual (SPARC V9, 6.2).
 
 ghost use Rattle.std.specs.Prelude.{◌≡◌, ◌<◌, ◌≤◌, ◌^◌, ◌*ℤ◌, pos, ◌*◌};
 ghost use Rattle.sparc_decode.specs.Fields as field;

@@ -6,7 +6,7 @@ ghost use Rattle.sparc_decode.specs.Forms as form;
 use crate::fields;
 use crate::instr::{Instr, Op, Src2};
 
-/// illegal_instruction (section 7).
+/// illegal_instruction (chapter 7).
 pub const ILLEGAL: u16 = 0x010;
 /// privileged_opcode.
 pub const PRIVILEGED: u16 = 0x011;

@@ -86,27 +86,29 @@ pub enum Src2 {
 }
 
 /// An instruction. A field that the form does not use has the value 0, `false` or `Src2::Reg(0)`.
+// The wide fields stand first, so that no bytes lie unused between them.
 #[derive(Clone, Copy, Debug, PartialEq, Eq)]
 pub struct Instr {
+    /// Operand 2, a shift count, or the short immediate of MOVcc and MOVr.
+    pub src2: Src2,
+    /// The displacement of a branch or CALL in bytes; the value of SETHI.
+    pub disp: i64,
+    /// The trap number of `Op::Trap`.
+    pub trap: u16,
+    /// The form.
     pub op: Op,
     /// The register of the field rd, where the form reads or writes it.
     pub rd: u8,
     /// The register of the field rs1, where the form reads it.
     pub rs1: u8,
-    /// Operand 2, a shift count, or the short immediate of MOVcc and MOVr.
-    pub src2: Src2,
     /// The condition of Bicc, BPcc, MOVcc and Tcc; the register condition of BPr and MOVr.
     pub cond: u8,
+    /// Which accesses MEMBAR or STBAR orders: 1 LoadLoad, 2 StoreLoad, 4 LoadStore, 8 StoreStore.
+    pub mask: u8,
     /// Whether BPcc, MOVcc or Tcc looks at xcc in place of icc.
     pub extended: bool,
     /// The annul bit of a branch.
     pub annul: bool,
     /// The prediction bit of BPcc and BPr.
     pub hint: bool,
-    /// The displacement of a branch or CALL in bytes; the value of SETHI.
-    pub disp: i64,
-    /// Which accesses MEMBAR or STBAR orders: 1 LoadLoad, 2 StoreLoad, 4 LoadStore, 8 StoreStore.
-    pub mask: u8,
-    /// The trap number of `Op::Trap`.
-    pub trap: u16,
 }

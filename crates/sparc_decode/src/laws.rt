@@ -11,11 +11,21 @@ pub fn no_word_fits_two_rows()
     ensures memory { law.KeysDiffer memory_rows }
 {}
 
-/// Each row of an opcode map says what the words are that it fits.
+/// Each row of an opcode map says what the words are that it fits, and a word that fits none is
+/// illegal_instruction.
 pub fn each_row_decides()
     ensures branches { law.EachRowDecides 0 field.op2 branch_rows }
     ensures arithmetic { law.EachRowDecides 2 field.op3 arithmetic_rows }
     ensures memory { law.EachRowDecides 3 field.op3 memory_rows }
+    ensures other_branches { law.OthersAreIllegal 0 field.op2 branch_rows }
+    ensures other_arithmetic { law.OthersAreIllegal 2 field.op3 arithmetic_rows }
+    ensures other_memory { law.OthersAreIllegal 3 field.op3 memory_rows }
+{}
+
+/// The fields of each word's instruction are in range, and the field rd is used or 0.
+pub fn fields_are_in_range()
+    ensures ranges { law.InRange }
+    ensures unused { law.UnusedRd }
 {}
 
 /// Bits that a form does not name may be any.
@@ -28,6 +38,9 @@ pub fn unnamed_bits_are_free()
     ensures counts_left { law.ShiftsByCounts 0x25 }
     ensures counts_right { law.ShiftsByCounts 0x26 }
     ensures counts_of_signed { law.ShiftsByCounts 0x27 }
+    ensures narrow_left { law.NarrowShifts 0x25 }
+    ensures narrow_right { law.NarrowShifts 0x26 }
+    ensures narrow_of_signed { law.NarrowShifts 0x27 }
     ensures divisions { law.OperandsInRegisters 0x2D }
     ensures counts_of_ones { law.OperandsInRegisters 0x2E }
     ensures state_writes { law.OperandsInRegisters 0x30 }
@@ -41,6 +54,8 @@ pub fn unnamed_bits_are_free()
     ensures traps { law.Traps }
     ensures traps_on_registers { law.TrapsOnRegisters }
     ensures state { law.StateReads }
+    ensures state_registers { law.RegisterReads }
+    ensures store_barriers { law.StoreBarriers }
     ensures window_flush { law.Flushes 0x2B }
     ensures memory_flush { law.Flushes 0x3B }
     ensures prefetches { law.Prefetches }

@@ -11,11 +11,14 @@ mod instr;
 mod laws;
 mod memory;
 mod operands;
+mod registers;
 
 pub use decoder::decode;
 pub use effects::{dest, sources, window_effect};
 pub use instr::{Instr, Op, Src2};
-pub use laws::{each_row_decides, no_word_fits_two_rows, unnamed_bits_are_free};
+pub use laws::{
+    each_row_decides, fields_are_in_range, no_word_fits_two_rows, unnamed_bits_are_free,
+};
 pub use operands::{Dest, Sources, WindowEffect};
 
 #[cfg(test)]

@@ -26,7 +26,7 @@ pub struct Dest {
     pub y: bool,
 }
 
-/// What an instruction does with the register windows.
+/// What an instruction does with the register windows (SPARC V9, 5.1.1).
 #[derive(Clone, Copy, Debug, PartialEq, Eq)]
 pub enum WindowEffect {
     Same,

@@ -1,4 +1,4 @@
-use Rattle.sparc_decode.proofs.Ranges.{branch_in_range, call_in_range, arithmetic_in_range, memory_in_range}
+use Rattle.sparc_decode.specs.Facts.{branch_in_range, call_in_range, arithmetic_in_range, memory_in_range}
 use Rattle.sparc_decode.proofs.decoder.decode.Goals as goal
 
 pub returns-in-0-clause-in_range : goal.returns-in-0-clause-in_range

@@ -6,8 +6,8 @@ use Rattle.sparc_decode.specs.declared.instr.Op.TheVariants as op
 use Rattle.sparc_decode.specs.Fields as field
 use Rattle.sparc_decode.specs.Forms as form
 use Rattle.sparc_decode.specs.Instr.{arithmetic_rows, by_row, instr}
-use Rattle.sparc_decode.specs.Laws.{is_arithmetic, ShiftsByRegisters, ShiftsByCounts, OperandsInRegisters}
-use Rattle.sparc_decode.proofs.Looks.{arithmetic_agree, addresses_agree, both, is_below, is_false, arithmetic_same, memory_same, SameRegisters, three_same, popc_same, write_state_same, return_same, return_on_registers_same, movcc_same, movr_same, shift_same, shift_by_count_same, tcc_same, tcc_on_registers_same, read_state_same, prefetch_same}
+use Rattle.sparc_decode.specs.Laws.{is_arithmetic, ShiftsByRegisters, ShiftsByCounts, NarrowShifts, OperandsInRegisters}
+use Rattle.sparc_decode.proofs.Looks.{arithmetic_agree, addresses_agree, both, is_below, is_false, arithmetic_same, memory_same, SameRegisters, three_same, popc_same, write_state_same, return_same, return_on_registers_same, movcc_same, movr_same, shift_same, shift_by_count_same, narrow_shift_same, tcc_same, tcc_on_registers_same, read_state_same, register_read_same, read_state_without_i_same, prefetch_same}
 use Rattle.sparc_decode.proofs.laws.unnamed_bits_are_free.Goals as goal
 
 -- a word with i clear beside one that has the same i
@@ -86,6 +86,23 @@ returns-clause-counts_right c = counted 0x26 op.Srl op.Srlx (λ v w same. same)
 pub returns-clause-counts_of_signed : goal.returns-clause-counts_of_signed
 returns-clause-counts_of_signed c = counted 0x27 op.Sra op.Srax (λ v w same. same)
 
+narrowed : (k : ℕ) (narrow wide : Op) → ((v w : ℕ) → form.shift narrow wide v ≡ form.shift narrow wide w → by_row arithmetic_rows k v ≡ by_row arithmetic_rows k w)
+    → NarrowShifts k
+narrowed k narrow wide row v w passes s =
+    let parts = both (is_arithmetic k v) (not (field.x v)) passes in
+    let clear = is_false (field.x v) parts.1 in
+    let still = sym (ap (λ n. n == 1) s.1.1.1.1.1.0) ∙ clear in
+    at_place k v w parts.0 s.0 s.1.1.0 (row v w (narrow_shift_same narrow wide v w s.1.0 s.1.1.1.0 s.1.1.1.1.0 clear still s.1.1.1.1.1.1.0))
+
+pub returns-clause-narrow_left : goal.returns-clause-narrow_left
+returns-clause-narrow_left c = narrowed 0x25 op.Sll op.Sllx (λ v w same. same)
+
+pub returns-clause-narrow_right : goal.returns-clause-narrow_right
+returns-clause-narrow_right c = narrowed 0x26 op.Srl op.Srlx (λ v w same. same)
+
+pub returns-clause-narrow_of_signed : goal.returns-clause-narrow_of_signed
+returns-clause-narrow_of_signed c = narrowed 0x27 op.Sra op.Srax (λ v w same. same)
+
 operands : (k : ℕ) → ((v w : ℕ) → SameRegisters v w → by_row arithmetic_rows k v ≡ by_row arithmetic_rows k w) → OperandsInRegisters k
 operands k row v w passes s =
     let parts = both (is_arithmetic k v) (not (field.i v)) passes in
@@ -161,6 +178,20 @@ pub returns-clause-state : goal.returns-clause-state
 returns-clause-state c v w passes s =
     at_place 0x28 v w passes s.0 s.1.1.0
     (read_state_same v w s.1.0 s.1.1.1.0 s.1.1.1.1.0 s.1.1.1.1.1.0 s.1.1.1.1.1.1.0)
+
+pub returns-clause-state_registers : goal.returns-clause-state_registers
+returns-clause-state_registers c v w passes s =
+    let parts = both (is_arithmetic 0x28 v) (not (field.rs1 v == 15)) passes in
+    let other = sym (ap (λ n. n == 15) s.1.1.1.0) ∙ is_false (field.rs1 v == 15) parts.1 in
+    at_place 0x28 v w parts.0 s.0 s.1.1.0 (register_read_same v w s.1.0 s.1.1.1.0 other)
+
+pub returns-clause-store_barriers : goal.returns-clause-store_barriers
+returns-clause-store_barriers c v w passes s =
+    let parts = both (is_arithmetic 0x28 v && field.rs1 v == 15) (not (field.i v)) passes in
+    let place = both (is_arithmetic 0x28 v) (field.rs1 v == 15) parts.0 in
+    let clear = is_false (field.i v) parts.1 in
+    at_place 0x28 v w place.0 s.0 s.1.1.0
+    (read_state_without_i_same v w s.1.0 s.1.1.1.0 clear (still_clear v w clear s.1.1.1.1.0))
 
 pub returns-clause-window_flush : goal.returns-clause-window_flush
 returns-clause-window_flush c v w passes s = at_place 0x2B v w passes s.0 s.1.0 refl
