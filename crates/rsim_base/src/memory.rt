@@ -45,10 +45,10 @@ pub enum Model {
 #[derive(Clone, Copy, Debug, PartialEq, Eq)]
 pub struct Access {
     pub node: Node,
-    pub index: u32,
     pub kind: Kind,
-    pub addr: Addr,
     pub size: Size,
+    pub index: u32,
+    pub addr: Addr,
     pub loaded: u64,
     pub stored: u64,
 }

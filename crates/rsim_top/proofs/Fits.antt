@@ -3,7 +3,7 @@ use Rattle.std.proofs.Common.{◌≡◌, ℕ, zero, suc, List, [], ◌∷◌, ma
 use Rattle.rsim_base.specs.declared.memory.Access.{Access}
 use Rattle.rsim_base.specs.declared.memory.Model.TheVariants.{Sc}
 use Rattle.elf64_load.specs.Image.{ImageView}
-use Rattle.sparc_meaning.specs.Run.{Made}
+use Rattle.rsim_base.specs.Made.{Made}
 use Rattle.rsim_top.specs.declared.processor.Processor.{Processor}
 use Rattle.rsim_top.specs.Fit.{Fit}
 use Rattle.rsim_top.specs.Order.{Respects, IsEntryOf, made_at}

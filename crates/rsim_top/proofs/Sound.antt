@@ -8,6 +8,7 @@ use Rattle.rsim_base.specs.declared.memory.Access.{Access}
 use Rattle.rsim_base.specs.declared.memory.Kind.TheVariants as kind
 use Rattle.rsim_base.specs.declared.memory.Size.{Size}
 use Rattle.rsim_base.specs.declared.memory.Size.TheVariants.{B1, B2, B4, B8}
+use Rattle.rsim_base.specs.Made.{Fences}
 use Rattle.rsim_base.specs.ByteSets.{gap_of-IsByteOf, count_of-bounds}
 use Rattle.elf64_load.specs.Image.{ImageView, byte_at}
 use Rattle.sparc_meaning.specs.declared.acts.Act.{Act}
@@ -15,7 +16,7 @@ use Rattle.sparc_meaning.specs.declared.acts.Act.TheVariants.{Nothing, Load, Sto
 use Rattle.sparc_meaning.specs.declared.arch.Arch.{Arch}
 use Rattle.sparc_meaning.specs.Acts.{IsAligned, IsSized, HasFound}
 use Rattle.sparc_meaning.specs.Arch.{is_running, IsSound as IsSoundState}
-use Rattle.sparc_meaning.specs.Run.{Ran, Fences, run, after, accesses_of, output_of, made_after, uses_value}
+use Rattle.sparc_meaning.specs.Run.{Ran, run, after, accesses_of, output_of, made_after, uses_value}
 use Rattle.sparc_meaning.specs.Step.{step}
 use Rattle.sparc_meaning.specs.StepIgnores.{step_ignores}
 use Rattle.rsim_top.specs.declared.memory.Memory.{Memory}

@@ -5,7 +5,7 @@ use Rattle.rsim_base.specs.Accesses.{loads, stores, overlap}
 use Rattle.rsim_base.specs.declared.memory.Access.{Access}
 use Rattle.rsim_base.specs.declared.memory.Model.{Model}
 use Rattle.rsim_base.specs.declared.memory.Model.TheVariants.{Sc, Pc, Rc}
-use Rattle.sparc_meaning.specs.Run.{Made}
+use Rattle.rsim_base.specs.Made.{Made}
 
 -- x is a plain store and y a plain load
 abbrev pub store_then_load : Access → Access → Bool

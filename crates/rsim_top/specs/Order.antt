@@ -2,7 +2,7 @@
 use Rattle.std.specs.Prelude.{◌≡◌, ℕ, ◌<◌, true, List, Option, Some, slice_get, option_and_then}
 use Rattle.rsim_base.specs.declared.memory.Access.{Access}
 use Rattle.rsim_base.specs.declared.memory.Model.{Model}
-use Rattle.sparc_meaning.specs.Run.{Made}
+use Rattle.rsim_base.specs.Made.{Made}
 use Rattle.rsim_top.specs.Axioms.{needs}
 
 -- access i of program p

@@ -13,7 +13,7 @@ use Rattle.sparc_decode.specs.declared.instr.Src2.{Src2}
 use Rattle.sparc_decode.specs.declared.instr.Src2.TheVariants.{Reg, Imm}
 use Rattle.sparc_decode.specs.Effects.{reads_rs1, reads_src2, reads_rd, reads_cc, reads_y, writes_rd, writes_cc, writes_y, written_by_form, written_of, window_effect_of_form, window_effect_of}
 use Rattle.sparc_decode.specs.Instr.{instr}
-use Rattle.sparc_decode.proofs.Unused.{unused_rd}
+use Rattle.sparc_decode.specs.Facts.{unused_rd}
 use Rattle.sparc_alu.specs.declared.arithmetic.AluOut.{AluOut}
 use Rattle.sparc_alu.specs.declared.arithmetic.DivisionByZero.{DivisionByZero}
 use Rattle.sparc_alu.specs.Accesses.{effective, extended, swapped}

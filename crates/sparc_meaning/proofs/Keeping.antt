@@ -8,7 +8,7 @@ use Rattle.sparc_decode.specs.declared.instr.Instr.{Instr}
 use Rattle.sparc_decode.specs.declared.instr.Op.{Op}
 use Rattle.sparc_decode.specs.declared.instr.Op.TheVariants.{Restore}
 use Rattle.sparc_decode.specs.Instr.{instr}
-use Rattle.sparc_decode.proofs.Ranges.{instr_in_range}
+use Rattle.sparc_decode.specs.Facts.{in_range}
 use Rattle.sparc_meaning.specs.declared.acts.Act.TheVariants.{Nothing, Load, Store}
 use Rattle.sparc_meaning.specs.declared.arch.Arch.{Arch}
 use Rattle.sparc_meaning.specs.declared.arch.ArchPhase.{ArchPhase}
@@ -417,7 +417,7 @@ back_after w image values value s t u v p d at =
     let i = instr p.must.word in
     let there : fetched image u.pc ≡ Some p.must.word = rw d.filled.pc p.must.stands in
     let one : u.canrestore ≡ 1 = d.restorable ∙ rw p.must.due refl in
-    restore_back w i.rd (total i u) u v (p.is ∙ ap below (sym d.filled.cwp)) (instr_in_range p.must.word).rd
+    restore_back w i.rd (total i u) u v (p.is ∙ ap below (sym d.filled.cwp)) (in_range p.must.word).rd
     (at ∙ ap (λ (x : Stepped). x.state) (step_runs image p.must.word u value d.over there ∙ restore_goes_on i image u value p.must.restores one))
 
 -- ---- the law

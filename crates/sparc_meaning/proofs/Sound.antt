@@ -10,7 +10,7 @@ use Rattle.sparc_decode.specs.declared.operands.WindowEffect.TheVariants as effe
 use Rattle.sparc_decode.specs.Effects.{window_effect_of}
 use Rattle.sparc_decode.specs.Instr.{instr}
 use Rattle.sparc_decode.specs.Ranges.{IsInRange}
-use Rattle.sparc_decode.proofs.Ranges.{instr_in_range}
+use Rattle.sparc_decode.specs.Facts.{in_range}
 use Rattle.sparc_meaning.specs.declared.acts.Act.{Act}
 use Rattle.sparc_meaning.specs.declared.arch.Arch.{Arch}
 use Rattle.sparc_meaning.specs.declared.arch.ArchPhase.{ArchPhase}
@@ -67,7 +67,7 @@ chosen_sound false t act how s after before = record { current = before.current;
 -- where no instruction can be fetched the trap has no register
 instr_of-in_range : (word : Option ℕ) → IsInRange (instr_of word)
 instr_of-in_range None = record { rd = omega arith; rs1 = omega arith; src2 = omega arith; cond = omega arith; mask = omega arith }
-instr_of-in_range (Some word) = instr_in_range word
+instr_of-in_range (Some word) = in_range word
 
 pub step_sound : (image : ImageView) (s : Arch) (value : ℕ) → IsSound s → IsSound (step image s value).state
 step_sound image s value sound =

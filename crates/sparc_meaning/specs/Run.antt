@@ -1,6 +1,7 @@
 -- A processor's run: so many steps from its start on given loaded values, the accesses that it made, and the
 -- bytes that it put.
-use Rattle.std.specs.Prelude.{ℕ, zero, suc, ◌+◌, ◌/◌, ◌%◌, Bool, true, false, not, ◌&&◌, map, if◌then◌else◌, List, [], ◌∷◌, ◌++◌, length, Option, Some, None, is_none, option_and_then, unwrap_or, slice_get, decimal}
+use Rattle.std.specs.Prelude.{ℕ, zero, suc, Bool, true, false, not, ◌&&◌, map, if◌then◌else◌, List, [], ◌∷◌, ◌++◌, length, Option, Some, None, is_none, option_and_then, unwrap_or, slice_get, decimal}
+use Rattle.rsim_base.specs.Made.{Fences, Made, no_fences, fenced}
 use Rattle.rsim_base.specs.declared.memory.Access.{Access}
 use Rattle.rsim_base.specs.declared.memory.Kind.TheVariants as kind
 use Rattle.elf64_load.specs.Image.{ImageView}
@@ -12,31 +13,6 @@ use Rattle.sparc_meaning.specs.declared.arch.Arch.{Arch}
 use Rattle.sparc_meaning.specs.Arch.{boot, is_running}
 use Rattle.sparc_meaning.specs.Step.{step}
 use Rattle.sparc_meaning.specs.Stepped.{Stepped}
-
--- how many fences a program has run so far, by what they order: an earlier load or store before a later
--- load or store
-pub record Fences : Type 0 where
-  pub load_load : ℕ
-  pub store_load : ℕ
-  pub load_store : ℕ
-  pub store_store : ℕ
-
-abbrev pub no_fences : Fences
-no_fences = record { load_load = 0; store_load = 0; load_store = 0; store_store = 0 }
-
--- with a fence of this mask, which has a bit for each
-abbrev pub fenced : ℕ → Fences → Fences
-fenced mask f = record {
-  load_load = f.load_load + mask % 2;
-  store_load = f.store_load + mask / 2 % 2;
-  load_store = f.load_store + mask / 4 % 2;
-  store_store = f.store_store + mask / 8 % 2;
-}
-
--- an access that a program has made, and the fences before it
-pub record Made : Type 0 where
-  pub access : Access
-  pub fences : Fences
 
 -- the accesses are numbered from 0, loads, stores and atomics alike
 pub record Ran : Type 0 where

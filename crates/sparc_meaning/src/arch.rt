@@ -1,9 +1,9 @@
 //! The state of a processor between two steps (SPARC V9, section 5).
 
 ghost use Rattle.std.specs.Prelude.{◌≡◌, ◌<◌, ◌≤◌};
-ghost use Rattle.sparc_alu.specs.Numbers.{twos_complement};
 ghost use Rattle.sparc_meaning.specs.Arch.{above as spec_above, below as spec_below, place as spec_place};
 
+use sparc_alu::bits_of;
 use sparc_decode::Src2;
 
 /// %o0, which a service takes its argument from, and %o1.
@@ -72,13 +72,6 @@ impl End {
     {
         matches!(self, End::Running)
     }
-}
-
-/// The bits of a number in two's complement.
-pub(crate) fn bits_of(value: i64) -> u64
-    ensures { result ≡ twos_complement value }
-{
-    value.cast_unsigned()
 }
 
 /// The window that SAVE goes to.

@@ -7,13 +7,13 @@ ghost use Rattle.sparc_meaning.specs.Arch.{IsSound, is_running};
 ghost use Rattle.sparc_meaning.specs.Step.{step as step_of, instr_at as spec_instr_at};
 
 use crate::acts::Act;
-use crate::arch::{Arch, ArchPhase, O7, bits_of};
+use crate::arch::{Arch, ArchPhase, O7};
 use crate::control::branched;
 use crate::fetching::instr_at;
 use crate::traps::{DIVISION_BY_ZERO, MEM_ADDRESS_NOT_ALIGNED};
 use elf64_load::Image;
 use rsim_base::Size;
-use sparc_alu::{alu, branch_taken, effective};
+use sparc_alu::{alu, bits_of, branch_taken, effective};
 use sparc_decode::{Instr, Op};
 
 /// One step: the instruction at pc, or one access of a spill or fill of a register window. `value` is

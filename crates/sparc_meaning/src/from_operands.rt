@@ -6,7 +6,7 @@ ghost use Rattle.sparc_meaning.specs.Computed as by;
 ghost use Rattle.sparc_meaning.specs.Forms.{kind};
 
 use crate::acts::Spoken;
-use crate::arch::{ArchPhase, End, bits_of};
+use crate::arch::{ArchPhase, End};
 use crate::control::{branched, by_slot_to, straight};
 use crate::fetched::{Computed, Fetched, Operands};
 use crate::traps::{
@@ -15,7 +15,7 @@ use crate::traps::{
 use crate::windows::slot_at;
 use elf64_load::Image;
 use rsim_base::{Addr, Size};
-use sparc_alu::{alu, branch_taken, effective};
+use sparc_alu::{alu, bits_of, branch_taken, effective};
 use sparc_decode::{Op, Src2};
 
 /// What a step gives, from its operands alone: its trap, the address of its access, the next pair, what it puts into

@@ -1,6 +1,6 @@
 use Rattle.std.proofs.Common.{[], length, unwrap_or, refl, sym, ap, ◌∙◌, arith}
 use Rattle.elf64_load.specs.Image.{byte_at}
-use Rattle.sparc_meaning.specs.Run.{no_fences}
+use Rattle.rsim_base.specs.Made.{no_fences}
 use Rattle.sparc_meaning.specs.Arch.{boot}
 use Rattle.rsim_top.specs.Memory.{of_doubleword}
 use Rattle.rsim_top.specs.Processor.{last_stored}
