@@ -1,5 +1,5 @@
--- What the rows of a table say of the instructions that it gives, and tables in which no two rows have the same key:
--- each row is the one that is found for its key.
+-- Tables in which no two rows have the same key: each row is the one that is found for its key, and none for a key
+-- that no row has.
 use Rattle.std.specs.Prelude.{◌≡◌, ◌≢◌, ◌<◌, ℕ, zero, suc, Bool, true, false, ◌==◌, ◌&&◌, not, if◌then◌else◌, List, [], ◌∷◌, length, AllPairs, slice_index_or, All}
 use Rattle.std.proofs.Common.{arith, refl, sym}
 use Rattle.std.proofs.lemmas.Bool.Decides.{nat_tests}
