@@ -5,7 +5,6 @@ use Rattle.std.proofs.Common.{◌≡◌, ℕ, Bool, true, false, List, [], ◌�
 use Rattle.std.proofs.lemmas.Bool.{and_parts}
 use Rattle.machine_config.specs.Keys.{Key, keys}
 use Rattle.machine_config.specs.Reading.{AreAllowed, HasRead}
-use Rattle.machine_config.specs.declared.reader.Given.{Given}
 use Rattle.machine_config.proofs.Numbers.{allows, Allows-allows}
 use Rattle.machine_config.proofs.Lines.{is_given}
 

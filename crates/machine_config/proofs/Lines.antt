@@ -2,22 +2,21 @@
 use Rattle.std.specs.Prelude.{find, position, option_map, unwrap_or}
 use Rattle.std.specs.List.{list_any}
 use Rattle.std.specs.Option.{option_or}
-use Rattle.std.specs.Str.{bytes_eq}
-use Rattle.std.proofs.Common.{◌≡◌, ℕ, ◌+◌, ◌<◌, ◌≤◌, ◌==◌, Bool, true, false, ◌||◌, List, [], ◌∷◌, ◌++◌, map, length, get_or, set, Option, Some, None, refl, sym, ap, ◌∙◌, arith, append_assoc, append-nil}
+use Rattle.std.proofs.Common.{◌≡◌, ℕ, suc, ◌+◌, ◌<◌, ◌==◌, Bool, true, false, ◌||◌, List, [], ◌∷◌, ◌++◌, map, length, drop, get_or, set, Option, Some, None, refl, sym, ap, ◌∙◌, arith, append_assoc, append-nil}
+use Rattle.std.proofs.Math.ListN.{drop_of_length-le}
+use Rattle.std.proofs.Math.Seq.{drop-cons}
 use Rattle.std.proofs.Math.Bool.{or-false}
 use Rattle.std.proofs.lemmas.Bool.{eqb-true}
 use Rattle.std.proofs.lemmas.List.{get_or-map, length-append}
 use Rattle.std.proofs.lemmas.List.Folds.{find-append}
 use Rattle.std.proofs.lemmas.List.Quantifiers.{position-Some}
 use Rattle.std.proofs.lemmas.List.Recursion.{or_push}
-use Rattle.std.proofs.lemmas.List.Splits.{length-slice_split}
-use Rattle.std.proofs.lemmas.List.Sums.{count_by-le-length}
 use Rattle.std.proofs.lemmas.Slice.Eq.{bytes_eq-Decides}
 use Rattle.machine_config.specs.Text.{lines, key_of, value_of}
 use Rattle.machine_config.specs.Keys.{Key, keys, processors}
 use Rattle.machine_config.specs.Allowed.{Allows}
 use Rattle.machine_config.specs.Faults.{names, value_fault, named_fault, line_fault, lines_fault, number_of, given_by}
-use Rattle.machine_config.specs.Reading.{AreAllowed, HasRead}
+use Rattle.machine_config.specs.Reading.{HasRead}
 use Rattle.machine_config.specs.declared.fault.ConfigFault.{ConfigFault}
 use Rattle.machine_config.specs.declared.fault.ConfigFault.TheVariants.{UnknownName, Repeated}
 use Rattle.machine_config.specs.declared.reader.Given.{Given}
@@ -150,31 +149,31 @@ pub record IsReading (text : List ℕ) (left : List (List ℕ)) (given : Given) 
   pub fault : lines_fault [] (lines text) ≡ lines_fault earlier left
   pub read : HasRead earlier given
 
-pub length-lines : (text : List ℕ) → length (lines text) ≤ length text + 1
-length-lines text =
-    omega (arith, length-slice_split (λ (b : ℕ). b == 10) text, count_by-le-length (λ (b : ℕ). b == 10) text)
+-- the line at a place is the first of those that are left there
+left-at : (all : List (List ℕ)) (n m : ℕ) (line : List ℕ) → n < length all → line ≡ get_or all n line → m ≡ n + 1 → drop n all ≡ line ∷ drop m all
+left-at all n m line below is next =
+    let place : m ≡ suc n = omega arith in drop-cons all n line below ∙ rw (← is, place) refl
 
-pub lines-below : (text : List ℕ) (left : List (List ℕ)) (given : Given) → IsReading text left given → given.lines + length left ≤ length text + 1
-lines-below text left given reading =
-    omega (arith, reading.read.lines, length-lines text, ap length reading.parts, length-append reading.earlier left)
+pub IsReading-more : (text line : List ℕ) (n m : ℕ) (old new : Given) (reading : IsReading text (drop n (lines text)) old)
+    → n < length (lines text) → line ≡ get_or (lines text) n line → m ≡ n + 1
+    → line_fault reading.earlier line ≡ None → HasRead (reading.earlier ++ line ∷ []) new → IsReading text (drop m (lines text)) new
+IsReading-more text line n m old new reading below is next fine read =
+    let left = left-at (lines text) n m line below is next in record {
+      earlier = reading.earlier ++ line ∷ [];
+      parts = reading.parts ∙ rw (left, append_assoc) refl;
+      fault = reading.fault ∙ rw (left, fine) refl;
+      read = read;
+    }
 
-pub IsReading-first : (text : List ℕ) (given : Given) → HasRead [] given → IsReading text (lines text) given
-IsReading-first text given read = record { earlier = []; parts = refl; fault = refl; read = read }
-
-pub IsReading-more : (text line : List ℕ) (left rest : List (List ℕ)) (old new : Given) (reading : IsReading text left old) → left ≡ line ∷ rest
-    → line_fault reading.earlier line ≡ None → HasRead (reading.earlier ++ line ∷ []) new → IsReading text rest new
-IsReading-more text line left rest old new reading is fine read = record {
-  earlier = reading.earlier ++ line ∷ [];
-  parts = reading.parts ∙ rw (is, append_assoc) refl;
-  fault = reading.fault ∙ rw (is, fine) refl;
-  read = read;
-}
-
-pub IsReading-fault : (text line : List ℕ) (left rest : List (List ℕ)) (given : Given) (fault : ConfigFault) (reading : IsReading text left given) → left ≡ line ∷ rest
+pub IsReading-fault : (text line : List ℕ) (n : ℕ) (given : Given) (fault : ConfigFault) (reading : IsReading text (drop n (lines text)) given)
+    → n < length (lines text) → line ≡ get_or (lines text) n line
     → line_fault reading.earlier line ≡ Some fault → lines_fault [] (lines text) ≡ Some fault
-IsReading-fault text line left rest given fault reading is faulty = reading.fault ∙ rw (is, faulty) refl
+IsReading-fault text line n given fault reading below is faulty =
+    let left = left-at (lines text) n (n + 1) line below is refl in reading.fault ∙ rw (left, faulty) refl
 
-pub IsReading-all : (text : List ℕ) (given : Given) → IsReading text [] given → (lines_fault [] (lines text) ≡ None) × HasRead (lines text) given
-IsReading-all text given reading =
-    let whole : lines text ≡ reading.earlier = reading.parts ∙ append-nil reading.earlier in
-    (reading.fault, rw whole reading.read)
+pub IsReading-all : (text : List ℕ) (n : ℕ) (given : Given) → IsReading text (drop n (lines text)) given → n ≡ length (lines text)
+    → (lines_fault [] (lines text) ≡ None) × HasRead (lines text) given
+IsReading-all text n given reading whole =
+    let none : drop n (lines text) ≡ [] = drop_of_length-le (lines text) (omega arith) in
+    let all : lines text ≡ reading.earlier = reading.parts ∙ rw none (append-nil reading.earlier) in
+    (reading.fault ∙ rw none refl, rw all reading.read)

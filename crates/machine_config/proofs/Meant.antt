@@ -1,12 +1,11 @@
 -- What is known of a value that has no fault.
-use Rattle.std.specs.Prelude.{position}
 use Rattle.std.specs.Int.{is_power_of_two}
 use Rattle.std.specs.List.{list_any, position_or_len}
 use Rattle.std.specs.Option.{option_or}
 use Rattle.std.specs.Str.{bytes_eq}
 use Rattle.std.specs.Str.Parse.{digits_value}
-use Rattle.std.proofs.Common.{◌≡◌, ℕ, ◌+◌, ◌<◌, Bool, true, false, ◌&&◌, ltb, leb, cond, List, [], ◌∷◌, length, Option, Some, None, refl, sym, ap, ◌∙◌, arith}
-use Rattle.std.proofs.lemmas.Bool.{lt-ltb, or_cases, cases_Bool}
+use Rattle.std.proofs.Common.{◌≡◌, ℕ, ◌<◌, Bool, true, false, cond, List, [], ◌∷◌, length, Option, Some, None, refl, arith}
+use Rattle.std.proofs.lemmas.Bool.{lt-ltb}
 use Rattle.machine_config.specs.Text.{is_number}
 use Rattle.machine_config.specs.Keys.{Values, number, power, word}
 use Rattle.machine_config.specs.Allowed.{Allows}

@@ -1,7 +1,7 @@
 -- The numbers of the keys, in the table's order.
 use Rattle.std.specs.Int.{is_power_of_two}
-use Rattle.std.specs.List.{AllByRecursion, list_all}
-use Rattle.std.proofs.Common.{◌≡◌, ℕ, zero, suc, ◌+◌, ◌<◌, Bool, true, ◌&&◌, leb, ltb, List, [], ◌∷◌, map, length, get_or, set, refl, arith}
+use Rattle.std.specs.List.{AllByRecursion}
+use Rattle.std.proofs.Common.{◌≡◌, ℕ, zero, suc, ◌<◌, Bool, true, ◌&&◌, leb, ltb, List, [], ◌∷◌, map, length, get_or, set, arith}
 use Rattle.std.proofs.lemmas.Bool.{and_parts, leb-true, ltb-true}
 use Rattle.machine_config.specs.Keys.{Values, number, power, word, Key}
 use Rattle.machine_config.specs.Allowed.{Allows}

@@ -1,7 +1,7 @@
 -- The first place that passes a test, and what stands before it and behind it.
 use Rattle.std.specs.Prelude.{find, position, unwrap_or}
-use Rattle.std.specs.List.{list_any, position_or_len, prefix_len, before_first, after_first, slice_split}
-use Rattle.std.proofs.Common.{◌≡◌, ℕ, ◌+◌, ◌-◌, ◌<◌, ◌≤◌, Bool, true, false, cond, not, ltb, List, [], ◌∷◌, map, length, take, drop, get_or, Option, Some, None, refl, sym, ap, ◌∙◌, arith}
+use Rattle.std.specs.List.{list_any, position_or_len, prefix_len, slice_split}
+use Rattle.std.proofs.Common.{◌≡◌, ℕ, ◌-◌, ◌<◌, Bool, true, false, cond, not, ltb, List, [], ◌∷◌, map, length, take, drop, get_or, Option, Some, None, refl, ◌∙◌, arith}
 use Rattle.std.proofs.lemmas.Bool.{ltb-false, or_parts, cond-false}
 use Rattle.std.proofs.lemmas.List.Quantifiers.{position-Some}
 use Rattle.std.proofs.lemmas.List.Recursion.{found_at, found_nowhere, or_at, or_from_places}

@@ -2,8 +2,8 @@
 use Rattle.std.specs.List.{position_or_len, after_first, list_all}
 use Rattle.std.specs.Char.{is_ascii_digit}
 use Rattle.std.specs.Str.{all_ascii_digits}
-use Rattle.std.proofs.Common.{◌≡◌, ℕ, suc, ◌+◌, Bool, true, false, not, cond, List, [], ◌∷◌, drop, refl, sym, ap, ◌∙◌, arith}
-use Rattle.machine_config.specs.Text.{is_blank, blanks, trimmed, trimmed_front, trimmed_end}
+use Rattle.std.proofs.Common.{◌≡◌, ℕ, suc, ◌+◌, Bool, true, false, cond, List, [], ◌∷◌, drop, refl, sym, ap, ◌∙◌, arith}
+use Rattle.machine_config.specs.Text.{is_blank, trimmed, trimmed_front, trimmed_end}
 
 one_more : (n : ℕ) → 1 + n ≡ suc n
 one_more n = omega arith

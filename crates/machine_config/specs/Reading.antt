@@ -1,10 +1,10 @@
 -- How the reader keeps what it has read: the table as the code has it, and the numbers by their keys' places.
-use Rattle.std.specs.Prelude.{◌≡◌, ℕ, ◌+◌, Bool, true, List, [], ◌∷◌, ◌++◌, length, map, Option, Some, None, Result, Ok, Err, MatchResult, ⊤}
+use Rattle.std.specs.Prelude.{◌≡◌, ℕ, List, [], ◌∷◌, ◌++◌, length, map, Some, None, Result, Ok, Err, MatchResult, ⊤}
 use Rattle.std.specs.List.{list_any}
 use Rattle.machine_config.specs.Text.{lines}
 use Rattle.machine_config.specs.Keys.{Values, number, power, word, Key, keys}
 use Rattle.machine_config.specs.Allowed.{Allows}
-use Rattle.machine_config.specs.Faults.{names, value_fault, line_fault, number_of, given_by}
+use Rattle.machine_config.specs.Faults.{names, value_fault, line_fault, lines_fault, number_of, given_by}
 use Rattle.machine_config.specs.declared.fault.ConfigFault.{ConfigFault}
 use Rattle.machine_config.specs.declared.reader.Given.{Given}
 use Rattle.machine_config.specs.declared.keys.Key.{Key as CodeKey}
@@ -43,11 +43,6 @@ ReadsValue values n value (Err fault) = value_fault values n value ≡ Some faul
 
 -- ---- the lines so far
 
--- what is left of a text: no lines where nothing follows the last one
-abbrev pub lines_left : Option (List ℕ) → List (List ℕ)
-lines_left None = []
-lines_left (Some rest) = lines rest
-
 -- the numbers are those that rows allow
 abbrev pub AreAllowed : List Key → List ℕ → Type 0
 AreAllowed [] xs = ⊤
@@ -67,3 +62,9 @@ ReadsLine old new line result = (earlier : List (List ℕ)) → HasRead earlier 
     MatchResult result
     (λ _. (line_fault earlier line ≡ None) × HasRead (earlier ++ line ∷ []) new)
     (λ fault. line_fault earlier line ≡ Some fault)
+
+-- all lines of a text
+abbrev pub ReadsLines : List ℕ → Result Given ConfigFault → Type 0
+ReadsLines text result = MatchResult result
+    (λ given. (lines_fault [] (lines text) ≡ None) × HasRead (lines text) given)
+    (λ fault. lines_fault [] (lines text) ≡ Some fault)

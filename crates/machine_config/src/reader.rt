@@ -8,7 +8,7 @@ ghost use Rattle.machine_config.specs.Allowed.{IsAllowed};
 use crate::config::Config;
 use crate::fault::ConfigFault;
 use crate::keys::{KEY_COUNT, defaults, place_of, table};
-use crate::text::{place_of_no_text, split_key, split_line};
+use crate::text::{place_of_no_text, split_key};
 use std::alloc::Global;
 
 /// The settings that a text names; a key that it does not name has its default.
@@ -45,7 +45,7 @@ struct Given {
 }
 
 impl Given {
-    ghost use Rattle.machine_config.specs.Reading.{HasRead, ReadsLine};
+    ghost use Rattle.machine_config.specs.Reading.{HasRead, ReadsLine, ReadsLines};
 
     // What no line gives: the defaults.
     fn new() -> Given
@@ -61,14 +61,11 @@ impl Given {
     // What all lines of a text give.
     fn read(text: &[u8]) -> Result<Given, ConfigFault>
         requires { length text.now ≤ 65536 }
-        ensures { MatchResult result (λ given. (lines_fault [] (lines text.now) ≡ None) × HasRead (lines text.now) given) (λ fault. lines_fault [] (lines text.now) ≡ Some fault) }
+        ensures { ReadsLines text.now result }
     {
         let mut given = Given::new();
-        let mut rest = Some(text);
-        while let Some(left) = rest {
-            let (line, behind) = split_line(left);
+        for line in text.split(|byte| *byte == b'\n') {
             given.read_line(line)?;
-            rest = behind;
         }
         Ok(given)
     }

@@ -1,8 +1,7 @@
 // The lines of a configuration and the words on them.
-ghost use Rattle.std.specs.Prelude.{◌≡◌, ◌==◌, ◌<◌, ◌≤◌, ◌∷◌, ⊤, not, length, position, reverse, MatchOption, option_map};
+ghost use Rattle.std.specs.Prelude.{◌≡◌, ◌==◌, ◌≤◌, not, length, position, reverse};
 ghost use Rattle.std.specs.List.{position_or_len};
-ghost use Rattle.machine_config.specs.Text.{is_text, is_blank, blanks, trimmed_end, trimmed, key_of, value_of, lines};
-ghost use Rattle.machine_config.specs.Reading.{lines_left};
+ghost use Rattle.machine_config.specs.Text.{is_text, is_blank, blanks, trimmed_end, trimmed, key_of, value_of};
 
 /// The place of the first byte that is no text.
 pub fn place_of_no_text(bytes: &[u8]) -> Option<usize>
@@ -23,18 +22,6 @@ fn is_blank(byte: u8) -> bool
     ensures { result ≡ is_blank byte }
 {
     matches!(byte, b' ' | b'\t' | b'\r')
-}
-
-/// The first line of a text, and what stands behind the line feed that ends it.
-pub fn split_line(text: &[u8]) -> (&[u8], Option<&[u8]>)
-    ensures lines { lines text.now ≡ result.0.now ∷ lines_left (option_map (λ rest. rest.now) result.1) }
-    ensures shorter { MatchOption result.1 ⊤ (λ rest. length rest.now < length text.now) }
-{
-    let end = place_of_byte(text, b'\n');
-    if end == text.len() {
-        return (text, None);
-    }
-    (&text[..end], Some(&text[end + 1..]))
 }
 
 /// The key and the value of a line, both empty where it has no words.

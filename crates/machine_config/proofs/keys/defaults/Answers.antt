@@ -1,4 +1,4 @@
-use Rattle.std.proofs.Common.{◌≡◌, ◌≢◌, ◌<◌, ℕ, List, map, length, get_or, sym, ap, ◌∙◌, rules, arith, below_more, length-set, get_or-set_same, get_or-set_other}
+use Rattle.std.proofs.Common.{◌≡◌, ◌≢◌, ◌<◌, List, map, length, sym, ap, ◌∙◌, arith, below_more, length-set, get_or-set_same, get_or-set_other}
 use Rattle.std.proofs.lemmas.List.{ext_get_or, get_or-map, length-map}
 use Rattle.std.proofs.lemmas.Simd.{map-map}
 use Rattle.machine_config.specs.Keys.{keys}

@@ -3,7 +3,7 @@ use Rattle.std.specs.Str.{bytes_eq}
 use Rattle.std.proofs.Common.{◌≡◌, sym, ap, ◌∙◌, rules, tests}
 use Rattle.std.proofs.lemmas.Iterator.{YieldsList-from_slice}
 use Rattle.std.proofs.lemmas.Iterator.Search.{position_from_yields_List}
-use Rattle.machine_config.specs.Keys.{Key, keys}
+use Rattle.machine_config.specs.Keys.{keys}
 use Rattle.machine_config.specs.Reading.{Row, row_of, row_of_code}
 use Rattle.machine_config.proofs.Places.{position-map}
 use Rattle.machine_config.proofs.keys.place_of.Goals as goal

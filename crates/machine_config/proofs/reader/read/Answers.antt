@@ -1,8 +1,6 @@
-use Rattle.std.proofs.Common.{◌≡◌, ◌≢◌, ◌%◌, ◌∙◌, [], Some, None, sym, ap, rules, arith}
+use Rattle.std.proofs.Common.{◌≡◌, ◌∙◌, [], Some, sym, ap}
 use Rattle.std.proofs.lemmas.Result.{err_from_is_err_and}
-use Rattle.machine_config.specs.Keys.{keys}
 use Rattle.machine_config.specs.Text.{lines}
-use Rattle.machine_config.specs.Faults.{Reads, given}
 use Rattle.machine_config.specs.declared.fault.ConfigFault.TheVariants.{Memory}
 use Rattle.machine_config.proofs.Whole.{Reads-fault, first_fault-text, first_fault-lines, first_fault-shape, shape_fault-some, shape_fault-none, IsNamedBy-numbers, processors-given, mesh_width-given, IsAllowed-numbers, mesh_width-positive, lines_fault-memory}
 use Rattle.machine_config.proofs.reader.read.Goals as goal

@@ -1,5 +1,5 @@
 use Rattle.std.specs.Prelude.{position}
-use Rattle.std.proofs.Common.{◌≡◌, ℕ, ◌==◌, ◌∙◌, not, refl, rules, tests}
+use Rattle.std.proofs.Common.{◌≡◌, ℕ, ◌∙◌, not, refl, rules, tests}
 use Rattle.std.proofs.lemmas.Iterator.{YieldsList-from_slice}
 use Rattle.std.proofs.lemmas.Iterator.Search.{position_from_yields_List}
 use Rattle.machine_config.specs.Text.{is_blank}

@@ -1,8 +1,7 @@
 use Rattle.std.specs.Prelude.{position}
-use Rattle.std.proofs.Common.{◌≡◌, ℕ, ◌==◌, ◌∙◌, not, refl, rules, tests}
+use Rattle.std.proofs.Common.{◌≡◌, ℕ, ◌==◌, ◌∙◌, refl, rules, tests}
 use Rattle.std.proofs.lemmas.Iterator.{YieldsList-from_slice}
 use Rattle.std.proofs.lemmas.Iterator.Search.{position_from_yields_List}
-use Rattle.machine_config.specs.Text.{is_blank}
 use Rattle.machine_config.proofs.Places.{first_place}
 use Rattle.machine_config.proofs.text.place_of_byte.Goals as goal
 

@@ -1,5 +1,5 @@
 use Rattle.std.specs.List.{position_or_len}
-use Rattle.std.proofs.Common.{◌≡◌, List, ℕ, drop, ap, ◌∙◌, sym, rules}
+use Rattle.std.proofs.Common.{◌≡◌, List, ℕ, drop, ap, ◌∙◌, rules}
 use Rattle.machine_config.specs.Text.{said, is_blank, trimmed}
 use Rattle.machine_config.proofs.Words.{trimmed-after_first}
 use Rattle.machine_config.proofs.text.split_key.Goals as goal

@@ -1,5 +1,4 @@
-use Rattle.std.specs.Str.Parse.{digits_value}
-use Rattle.std.proofs.Common.{◌≡◌, ◌<◌, ◌≤◌, ◌^◌, ◌∙◌, length, take, get_or, arith, rules}
+use Rattle.std.proofs.Common.{◌<◌, length, arith}
 use Rattle.machine_config.proofs.Digits.{digits_value-lt, digit_in_range, digits_value-more}
 use Rattle.machine_config.proofs.values.digits_value.Goals as goal
 

@@ -1,4 +1,4 @@
-use Rattle.std.proofs.Common.{◌≡◌, ℕ, ◌<◌, map, List, length, get_or, refl, sym, ◌∙◌, rules, arith}
+use Rattle.std.proofs.Common.{◌≡◌, length, get_or, refl, rules, arith}
 use Rattle.std.proofs.lemmas.List.FromFn.{fill_by_all}
 use Rattle.machine_config.specs.Keys.{keys, processors}
 use Rattle.machine_config.proofs.Numbers.{AreAllowed-at}

@@ -1,9 +1,8 @@
-use Rattle.std.proofs.Common.{◌≡◌, ℕ, ◌+◌, ◌<◌, List, length, get_or, Some, None, sym, ap, ◌∙◌, rules, arith}
+use Rattle.std.proofs.Common.{◌+◌, length, get_or, Some, sym, ap, ◌∙◌}
 use Rattle.std.proofs.lemmas.Result.{err_from_is_err_and}
-use Rattle.machine_config.specs.Text.{key_of, value_of}
+use Rattle.machine_config.specs.Text.{value_of}
 use Rattle.machine_config.specs.Keys.{keys, processors}
 use Rattle.machine_config.specs.Allowed.{Allows}
-use Rattle.machine_config.specs.Faults.{value_fault, number_of}
 use Rattle.machine_config.specs.declared.fault.ConfigFault.TheVariants.{UnknownName, Repeated}
 use Rattle.machine_config.proofs.Lines.{line_fault-empty, line_fault-unknown, line_fault-repeated, line_fault-value, HasRead-empty, HasRead-value, named-at, key-empty, key-some, key-place}
 use Rattle.machine_config.proofs.Table.{place-below, values-at, word_count-at}

@@ -1,6 +1,6 @@
 use Rattle.std.specs.Prelude.{position}
 use Rattle.std.specs.Str.{bytes_eq}
-use Rattle.std.proofs.Common.{◌≡◌, ℕ, List, [], map, Some, None, sym, ap, ◌∙◌, refl, rules, tests}
+use Rattle.std.proofs.Common.{◌≡◌, [], map, sym, ◌∙◌, refl, rules, tests}
 use Rattle.std.proofs.lemmas.Iterator.{YieldsList-from_slice}
 use Rattle.std.proofs.lemmas.Iterator.Search.{position_from_yields_List}
 use Rattle.machine_config.proofs.Places.{position-map, position-first, list_any-Some, list_any-None}
