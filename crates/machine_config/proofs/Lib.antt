@@ -4,6 +4,7 @@ pub mod Lines
 pub mod Meant
 pub mod Numbers
 pub mod Places
+pub mod Ranges
 pub mod Table
 pub mod Whole
 pub mod Words
