@@ -1,0 +1,5 @@
+pub mod Allowed
+pub mod Faults
+pub mod Keys
+pub mod Reading
+pub mod Text
