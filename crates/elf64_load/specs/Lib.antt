@@ -1,2 +1,4 @@
 pub mod Elf
+pub mod Faults
 pub mod Image
+pub mod Layout

@@ -1,20 +1,21 @@
-// The headers of an ELF64 file (System V ABI, chapter 4).
-ghost use Rattle.std.specs.Prelude.{◌≡◌, ◌==◌, ◌+◌, ◌≤◌, ◌&&◌, [], ◌∷◌, IfOk, IsTrue, length};
-ghost use Rattle.elf64_load.specs.Elf.{is_big_elf64, is_sparc_program, header_size, has_headers, has_one_header, header_at, is_load, is_sized, meets_stacks, has_text, are_loadable, region_of};
+// Program headers of an ELF64 file (System V ABI, chapter 5).
+ghost use Rattle.std.specs.Prelude.{◌≡◌, ◌+◌, ◌-◌, ◌/◌, ◌<◌, ◌≤◌, ◌^◌, length};
+ghost use Rattle.elf64_load.specs.Elf as Elf;
+ghost use Rattle.elf64_load.specs.Elf.{header_at, is_load, is_interp, meets_stacks, share_block, has_text};
+ghost use Rattle.elf64_load.specs.Faults.{segment_fault};
+ghost use Rattle.elf64_load.specs.Layout.{size_of, segment_of};
 
-use crate::region::Region;
+use crate::fault::ElfFault;
+use crate::segment::Segment;
+use crate::span::Span;
 use crate::stacks::{STACKS_END, STACKS_START};
 use byteorder::{BigEndian, ByteOrder};
-use std::alloc::{AllocError, Global};
 
-/// Where the table of program headers begins.
-pub const TABLE: usize = 64;
+/// How many bytes a program header has.
+pub const HEADER_BYTES: usize = 56;
 
-// A file of one program header has at least so many bytes.
-const HEADERS_END: usize = 120;
-
-// The most bytes of memory that are taken for segments: 16 MiB.
-const MAX_MAPPED: u64 = 16_777_216;
+/// How many bytes an aligned block of memory has that no two segments share.
+pub const BLOCK_BYTES: u128 = 128;
 
 // How many addresses there are.
 const ADDRESSES: u128 = 1 << 64;
@@ -28,40 +29,6 @@ pub struct ProgramHeader {
     pub vaddr: u64,
     pub filesz: u64,
     pub memsz: u64,
-}
-
-/// Whether the file's header is that of a big-endian ELF64 executable for SPARC V9, with one program
-/// header right behind it.
-pub fn has_one_program_header(file: &[u8]) -> bool
-    ensures { result ≡ (has_headers file.now && has_one_header file.now) }
-{
-    file.len() >= HEADERS_END && is_big_elf64(file) && is_sparc_program(file) && has_one_entry(file)
-}
-
-// Whether it begins as a big-endian ELF64 file.
-fn is_big_elf64(file: &[u8]) -> bool
-    requires { 64 ≤ length file.now }
-    ensures { result ≡ is_big_elf64 file.now }
-{
-    BigEndian::read_u32(file) == 0x7F45_4C46 && file[4] == 2 && file[5] == 2
-}
-
-// Whether it is an executable, and for SPARC V9.
-fn is_sparc_program(file: &[u8]) -> bool
-    requires { 64 ≤ length file.now }
-    ensures { result ≡ is_sparc_program file.now }
-{
-    BigEndian::read_u16(&file[18..]) == 43 && BigEndian::read_u16(&file[16..]) == 2
-}
-
-// Whether its table of program headers has one entry, of 56 bytes, right behind the file's header.
-fn has_one_entry(file: &[u8]) -> bool
-    requires { 64 ≤ length file.now }
-    ensures { result ≡ (header_size file.now == 56 && has_one_header file.now) }
-{
-    BigEndian::read_u16(&file[54..]) == 56
-        && BigEndian::read_u16(&file[56..]) == 1
-        && BigEndian::read_u64(&file[32..]) == TABLE as u64
 }
 
 impl ProgramHeader {
@@ -80,31 +47,121 @@ impl ProgramHeader {
         }
     }
 
-    /// Whether it is a segment that can be loaded alone, from a file of this size.
-    pub fn is_loadable(&self, size: u64) -> bool
-        ensures { result ≡ (is_load self.now && are_loadable size (self.now ∷ [])) }
+    /// Whether it is a segment of memory.
+    pub fn is_load(&self) -> bool
+        ensures { result ≡ is_load self.now }
     {
         self.kind == 1
-            && self.has_text()
-            && self.memsz <= MAX_MAPPED
-            && self.is_sized(size)
-            && !self.meets_stacks()
     }
 
-    // Whether its bytes are in the file, are no more than the segment has, and it ends in memory.
-    fn is_sized(&self, size: u64) -> bool
-        ensures { result ≡ is_sized size self.now }
+    /// Whether it asks for a dynamic linker.
+    pub fn is_interp(&self) -> bool
+        ensures { result ≡ is_interp self.now }
     {
-        u128::from(self.offset) + u128::from(self.filesz) <= u128::from(size)
-            && self.filesz <= self.memsz
-            && self.end() <= ADDRESSES
+        self.kind == 3
     }
 
-    // Whether some byte of it is in a stack.
-    fn meets_stacks(&self) -> bool
+    /// How many bytes of memory it takes.
+    pub fn size(&self) -> u64
+        ensures { result ≡ size_of self.now }
+    {
+        if self.is_load() { self.memsz } else { 0 }
+    }
+
+    /// What is wrong with segment `place` of a file of `size` bytes by itself.
+    pub fn fault(&self, place: u32, size: u64) -> Option<ElfFault>
+        ensures { result ≡ segment_fault size place self.now }
+    {
+        if u128::from(self.offset) + u128::from(self.filesz) > u128::from(size) {
+            return Some(ElfFault::SegmentPastEnd(place));
+        }
+        if self.filesz > self.memsz {
+            return Some(ElfFault::SegmentShort(place));
+        }
+        if self.end() > ADDRESSES {
+            return Some(ElfFault::SegmentWraps(place));
+        }
+        None
+    }
+
+    /// Whether it is a segment with a byte in a stack.
+    pub fn meets_stacks(&self) -> bool
         ensures { result ≡ meets_stacks self.now }
     {
-        self.memsz > 0 && self.vaddr < STACKS_END && u128::from(STACKS_START) < self.end()
+        self.is_load()
+            && self.memsz > 0
+            && self.vaddr < STACKS_END
+            && u128::from(STACKS_START) < self.end()
+    }
+
+    /// Whether both are segments, with bytes in one aligned block.
+    pub fn shares_block(&self, other: &ProgramHeader) -> bool
+        ensures { result ≡ share_block self.now other.now }
+    {
+        self.is_load()
+            && other.is_load()
+            && self.memsz > 0
+            && other.memsz > 0
+            && self.first_block() <= other.last_block()
+            && other.first_block() <= self.last_block()
+    }
+
+    /// Whether instructions are fetched from it.
+    pub fn has_text(&self) -> bool
+        ensures { result ≡ has_text self.now }
+    {
+        self.is_load() && self.may_run() && !self.may_write() && self.memsz > 0
+    }
+
+    /// Its segment, with the bytes from `start` on.
+    pub fn segment(&self, start: u32) -> Segment
+        requires { size_of self.now < 2 ^ 32 }
+        ensures { result ≡ segment_of start self.now }
+    {
+        Segment {
+            first: self.vaddr,
+            start,
+            len: self.size() as u32,
+            may_read: self.flags / 4 % 2 == 1,
+            may_write: self.may_write(),
+            may_run: self.may_run(),
+        }
+    }
+
+    /// Its span, as that of segment `place`.
+    pub fn span(&self, place: u32) -> Span
+        requires { size_of self.now < 2 ^ 32 }
+        ensures { result ≡ record { first = self.now.vaddr; len = size_of self.now; place = place } }
+    {
+        Span {
+            first: self.vaddr,
+            len: self.size() as u32,
+            place,
+        }
+    }
+
+    fn may_run(&self) -> bool
+        ensures { result ≡ Elf.may_run self.now }
+    {
+        self.flags % 2 == 1
+    }
+
+    fn may_write(&self) -> bool
+        ensures { result ≡ Elf.may_write self.now }
+    {
+        self.flags / 2 % 2 == 1
+    }
+
+    fn first_block(&self) -> u128
+        ensures { result ≡ self.now.vaddr / 128 }
+    {
+        u128::from(self.vaddr) / BLOCK_BYTES
+    }
+
+    fn last_block(&self) -> u128
+        ensures { result ≡ (self.now.vaddr + self.now.memsz - 1) / 128 }
+    {
+        self.end().saturating_sub(1) / BLOCK_BYTES
     }
 
     // The address behind its last byte.
@@ -112,31 +169,5 @@ impl ProgramHeader {
         ensures { result ≡ self.now.vaddr + self.now.memsz }
     {
         u128::from(self.vaddr) + u128::from(self.memsz)
-    }
-
-    // Whether instructions are fetched from it.
-    fn has_text(&self) -> bool
-        ensures { result ≡ has_text self.now }
-    {
-        self.flags % 2 == 1 && self.flags / 2 % 2 == 0 && self.memsz > 0
-    }
-
-    /// The region: its bytes of the file, and zeros behind them.
-    pub fn region(&self, alloc: Global, file: &[u8]) -> Result<Region, AllocError>
-        requires { IsTrue (is_sized (length file.now) self.now) }
-        ensures { IfOk result (λ region. region ≡ region_of file.now self.now) }
-    {
-        let from = self.offset as usize;
-        let to = from + self.filesz as usize;
-        let mut bytes = Vec::with_capacity(alloc, self.memsz as usize)?;
-        bytes.extend_from_slice(&file[from..to])?;
-        bytes.resize(self.memsz as usize, 0)?;
-        Ok(Region {
-            first: self.vaddr,
-            bytes,
-            may_read: self.flags / 4 % 2 == 1,
-            may_write: self.flags / 2 % 2 == 1,
-            may_run: self.flags % 2 == 1,
-        })
     }
 }

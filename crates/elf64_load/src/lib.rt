@@ -4,9 +4,16 @@
 mod fault;
 mod header;
 mod image;
+mod layout;
 mod loader;
-mod region;
+mod regions;
+mod rules;
+mod search;
+mod segment;
+mod shared;
+mod span;
 mod stacks;
+mod table;
 #[cfg(test)]
 mod tests;
 

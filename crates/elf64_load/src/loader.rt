@@ -1,42 +1,50 @@
 // From the bytes of a file to its image.
-ghost use Rattle.std.specs.Prelude.{◌≡◌, ◌≤◌, [], ◌∷◌, IfOk, IsTrue, length};
-ghost use Rattle.elf64_load.specs.Elf.{Loads, is_sized, region_of, entry_of};
+ghost use Rattle.std.specs.Prelude.{◌≡◌, ◌≤◌, None, length, take};
+ghost use Rattle.elf64_load.specs.Elf as Elf;
+ghost use Rattle.elf64_load.specs.Faults.{Loads, faults, first_some};
 
 use crate::fault::ElfFault;
-use crate::header::{ProgramHeader, TABLE, has_one_program_header};
+use crate::header::ProgramHeader;
 use crate::image::Image;
-use byteorder::{BigEndian, ByteOrder};
-use std::alloc::{AllocError, Global};
+use crate::regions::Regions;
+use crate::rules::{check_stacks, check_text, mapped_size};
+use crate::shared::{check_blocks, spans_in_order};
+use crate::table::{check_kind, check_table, entry, read_headers};
+use std::alloc::Global;
 
 /// The image of a static executable.
 ///
 /// # Errors
-/// `Unbuilt` exactly where the file is no executable that can be loaded, or not in the form that is
-/// loaded so far; `Memory`.
+/// The first fault of the file, exactly where it has one; `Memory`.
 pub fn load(alloc: Global, file: &[u8]) -> Result<Image, ElfFault>
     ensures { Loads file.now result }
 {
-    if !has_one_program_header(file) {
-        return Err(ElfFault::Unbuilt);
-    }
-    let segment = ProgramHeader::read(file, TABLE);
-    if !segment.is_loadable(file.len() as u64) {
-        return Err(ElfFault::Unbuilt);
-    }
-    let image = load_segment(alloc, file, &segment).map_err(|_| ElfFault::Memory)?;
-    if image.fetch(image.entry()).is_none() {
-        return Err(ElfFault::Unbuilt);
-    }
-    Ok(image)
+    check_kind(file)?;
+    check_table(file)?;
+    let headers = read_headers(alloc, file).map_err(|_| ElfFault::Memory)?;
+    load_segments(alloc, file, &headers)
 }
 
-// The image of a file with one segment.
-fn load_segment(alloc: Global, file: &[u8], segment: &ProgramHeader) -> Result<Image, AllocError>
+// The image of a file with these program headers.
+fn load_segments(alloc: Global, file: &[u8], headers: &[ProgramHeader]) -> Result<Image, ElfFault>
     requires header { 64 ≤ length file.now }
-    requires sized { IsTrue (is_sized (length file.now) segment.now) }
-    ensures { IfOk result (λ image. image ≡ record { regions = region_of file.now segment.now ∷ []; entry = entry_of file.now }) }
+    requires count { length headers.now ≤ 65535 }
+    requires headers { headers.now ≡ Elf.headers file.now }
+    requires table { first_some (take 8 (faults file.now)) ≡ None }
+    ensures { Loads file.now result }
 {
-    let mut regions = Vec::with_capacity(alloc, 1)?;
-    regions.push(segment.region(alloc, file)?)?;
-    Ok(Image::new(regions, BigEndian::read_u64(&file[24..])))
+    let mapped = mapped_size(headers, file.len() as u64)?;
+    check_stacks(headers)?;
+    let order = spans_in_order(alloc, headers).map_err(|_| ElfFault::Memory)?;
+    check_blocks(headers, &order)?;
+    check_text(headers)?;
+    let entry = entry(file);
+    let regions = Regions::load(alloc, file, headers, order, mapped as usize, entry).map_err(
+        |_| ElfFault::Memory,
+    )?;
+    let image = Image::new(regions, entry);
+    if image.fetch(entry).is_none() {
+        return Err(ElfFault::BadEntry);
+    }
+    Ok(image)
 }
