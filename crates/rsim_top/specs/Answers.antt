@@ -8,8 +8,8 @@ use Rattle.rsim_io.specs.Faults.{Rose}
 use Rattle.rsim_io.specs.Files.{Files}
 use Rattle.rsim_io.specs.Written.{and_then}
 use Rattle.elf64_load.specs.Image.{ImageView}
-use Rattle.elf64_load.specs.Elf.{image_of}
-use Rattle.elf64_load.specs.declared.fault.ElfFault.TheVariants.{Unbuilt, Memory as ElfMemory}
+use Rattle.elf64_load.specs.Faults.{first_fault, Loads}
+use Rattle.elf64_load.specs.declared.fault.ElfFault.{ElfFault}
 use Rattle.sparc_meaning.specs.Arch.{is_running}
 use Rattle.sparc_meaning.specs.Run.{Ran}
 use Rattle.rsim_top.specs.declared.refusal.File.TheVariants.{Exe, Order, Report}
@@ -80,6 +80,10 @@ pub record IsExecutable (files : Option Files) (name file : List ℕ) : Type 0 w
 abbrev pub IsTooLong : Option Files → List ℕ → Type 0
 IsTooLong files name = IfSome files (λ files. IsSomeAnd (get files name) (λ file. longest_exe < length file))
 
+-- the file has a fault, and this is the first
+abbrev pub IsFaulty : Option Files → List ℕ → ElfFault → Type 0
+IsFaulty files name fault = (file : List ℕ) × IsExecutable files name file × (first_fault file ≡ Some fault)
+
 -- The run that a command asks for: its executable, that file's image, so many steps of one processor, and an
 -- order that fits them under sequential consistency, of no more accesses than steps, and such that its lines can hold
 -- these. The steps are as many as the bound on the cycles, or the last one ended the processor.
@@ -87,7 +91,7 @@ pub record AskedRun (old : Outside) (want : Asked) : Type 0 where
   pub file : List ℕ
   pub executable : IsExecutable old.files want.exe file
   pub image : ImageView
-  pub loaded : image_of file ≡ Some image
+  pub loaded : Loads file (Ok image)
   pub steps : ℕ
   pub order : List Access
   pub ran : Ran
@@ -127,9 +131,8 @@ AnswersAsked old new want (Err (Read Exe)) = Rose old.shelf_faults new.shelf_fau
 -- the executable is longer than the limit
 AnswersAsked old new want (Err (Big Exe)) =
     IsTooLong old.files want.exe × IsUntouched old new
--- the executable has no image
-AnswersAsked old new want (Err (Elf Unbuilt)) =
-    ((file : List ℕ) × IsExecutable old.files want.exe file × (image_of file ≡ None)) × IsUntouched old new
+-- the executable has this fault first
+AnswersAsked old new want (Err (Elf fault)) = IsFaulty old.files want.exe fault × IsUntouched old new
 -- the shelf failed while the order was written
 AnswersAsked old new want (Err (Write Order)) = Rose old.shelf_faults new.shelf_faults × StopsAtOrder old new want
 -- the sink failed while the report was written
@@ -141,7 +144,6 @@ AnswersAsked old new want (Err (Read Order)) = ⊥
 AnswersAsked old new want (Err (Read Report)) = ⊥
 AnswersAsked old new want (Err (Big Order)) = ⊥
 AnswersAsked old new want (Err (Big Report)) = ⊥
-AnswersAsked old new want (Err (Elf ElfMemory)) = ⊥
 AnswersAsked old new want (Err (Write Exe)) = ⊥
 
 -- The answer to words that ask for a run, or that are wrong: then the fault, and nothing else is done.
@@ -164,9 +166,10 @@ pub record IsHeld (told : Option Files) (name file : List ℕ) : Type 0 where
   pub are_told : told ≡ Some files
   pub found : get files name ≡ Some file
 
--- Words that are wrong are always refused so, and an executable that is too long or has no image is never
--- run.
+-- Words that are wrong are always refused so, and an executable that is too long or has a fault is always refused with
+-- that.
 pub record IsExact (words : List (List ℕ)) (old : Outside) (result : Result Reported Refusal) : Type 0 where
   pub wrong_words : (fault : WordsFault) → asked words ≡ Err fault → result ≡ Err (Words fault)
   pub too_long : (want : Asked) (file : List ℕ) → asked words ≡ Ok want → IsHeld old.files want.exe file → longest_exe < length file → IsRefused (Big Exe) result
-  pub no_image : (want : Asked) (file : List ℕ) → asked words ≡ Ok want → IsHeld old.files want.exe file → length file ≤ longest_exe → image_of file ≡ None → IsRefused (Elf Unbuilt) result
+  pub faulty : (want : Asked) (file : List ℕ) (fault : ElfFault) → asked words ≡ Ok want → IsHeld old.files want.exe file → length file ≤ longest_exe
+      → first_fault file ≡ Some fault → IsRefused (Elf fault) result

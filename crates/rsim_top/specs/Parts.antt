@@ -1,10 +1,9 @@
 -- What each part of a command answers and leaves.
-use Rattle.std.specs.Prelude.{◌≡◌, ℕ, List, Option, Some, None}
+use Rattle.std.specs.Prelude.{◌≡◌, ℕ, List, Option, Some, Ok}
 use Rattle.rsim_io.specs.Faults.{Rose}
 use Rattle.rsim_io.specs.Files.{Files}
 use Rattle.elf64_load.specs.Image.{ImageView}
-use Rattle.elf64_load.specs.Elf.{image_of}
-use Rattle.elf64_load.specs.declared.fault.ElfFault.TheVariants.{Unbuilt, Memory as ElfMemory}
+use Rattle.elf64_load.specs.Faults.{first_fault, Loads}
 use Rattle.rsim_top.specs.declared.refusal.File.TheVariants.{Exe, Order, Report}
 use Rattle.rsim_top.specs.declared.refusal.Refusal.{Refusal}
 use Rattle.rsim_top.specs.declared.refusal.Refusal.TheVariants.{Words, Read, Big, Elf, Write, Memory}
@@ -27,16 +26,15 @@ FailsToFetch files name before now (Write file) = ⊥
 
 -- a processor that has run the file's image
 abbrev pub HasRunFile : List ℕ → ℕ → Processor → Type 0
-HasRunFile file cycles p = (image : ImageView) × (image_of file ≡ Some image) × IsOver image cycles p
+HasRunFile file cycles p = (image : ImageView) × Loads file (Ok image) × IsOver image cycles p
 
 -- why a file was not run
 abbrev pub FailsToRun : List ℕ → Refusal → Type 0
-FailsToRun file (Elf Unbuilt) = image_of file ≡ None
+FailsToRun file (Elf fault) = first_fault file ≡ Some fault
 FailsToRun file Memory = Unit {0}
 FailsToRun file (Words fault) = ⊥
 FailsToRun file (Read which) = ⊥
 FailsToRun file (Big which) = ⊥
-FailsToRun file (Elf ElfMemory) = ⊥
 FailsToRun file (Write which) = ⊥
 
 -- why the order was not written

@@ -32,7 +32,7 @@ pub struct Reported {
 ///
 /// # Errors
 /// The first refusal, in the order of the variants of `Refusal`. Only the words, the executable's
-/// length and its form, and failures of the shelf or the sink lead to one, beside want of memory.
+/// length and its faults, and failures of the shelf or the sink lead to one, beside want of memory.
 pub fn run_command<S: Shelf, K: Sink>(
     alloc: Global,
     words: &Vec<String>,
@@ -103,8 +103,8 @@ fn run_file(alloc: Global, file: &[u8], cycles: u32) -> Result<Processor, Refusa
 {
     let image = match load(alloc, file) {
         Ok(image) => image,
-        Err(ElfFault::Unbuilt) => return Err(Refusal::Elf(ElfFault::Unbuilt)),
         Err(ElfFault::Memory) => return Err(Refusal::Memory),
+        Err(fault) => return Err(Refusal::Elf(fault)),
     };
     match Processor::run(alloc, &image, cycles) {
         Ok(processor) => Ok(processor),

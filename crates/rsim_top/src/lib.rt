@@ -10,6 +10,8 @@ mod refusal;
 mod report_text;
 #[cfg(test)]
 mod tests;
+#[cfg(test)]
+mod tests_segments;
 mod text;
 mod words;
 

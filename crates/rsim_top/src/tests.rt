@@ -116,7 +116,21 @@ fn runs_as(
     output: &str,
     accesses: &str,
 ) -> Result<bool, Fail> {
-    let mut shelf = shelf_with(alloc, &executable(alloc, code)?, &[])?;
+    let file = executable(alloc, code)?;
+    file_runs_as(alloc, &file, cycles, steps, line, output, accesses)
+}
+
+/// The same of an executable.
+pub(crate) fn file_runs_as(
+    alloc: Global,
+    file: &[u8],
+    cycles: &str,
+    steps: u32,
+    line: &str,
+    output: &str,
+    accesses: &str,
+) -> Result<bool, Fail> {
+    let mut shelf = shelf_with(alloc, file, &[])?;
     let mut out = sink(alloc, &[])?;
     let words = words(alloc, &["exe", cycles, "order"])?;
     run_command(alloc, &words, &mut shelf, &mut out)?;
@@ -657,8 +671,8 @@ fn a_file_that_is_no_executable_is_refused(rt: HostRuntime) -> Result<(), Fail> 
     let alloc = rt.alloc();
     let words = words(alloc, &["exe", "5", "order"])?;
     let cases = [
-        (63, Refusal::Elf(ElfFault::Unbuilt)),
-        (16_777_216, Refusal::Elf(ElfFault::Unbuilt)),
+        (63, Refusal::Elf(ElfFault::Truncated(63))),
+        (16_777_216, Refusal::Elf(ElfFault::NotElf)),
         (16_777_217, Refusal::Big(File::Exe)),
     ];
     for (length, refusal) in cases {
@@ -758,7 +772,16 @@ fn refusals_have_their_texts_and_statuses(rt: HostRuntime) -> Result<(), Fail> {
         (Refusal::Words(WordsFault::Cycles), "bad cycles", 2),
         (Refusal::Read(File::Exe), "cannot read executable", 5),
         (Refusal::Big(File::Exe), "executable too long", 4),
-        (Refusal::Elf(ElfFault::Unbuilt), "executable: Unbuilt", 4),
+        (
+            Refusal::Elf(ElfFault::Truncated(63)),
+            "executable: Truncated 63",
+            4,
+        ),
+        (
+            Refusal::Elf(ElfFault::SharedBlock(0, 1)),
+            "executable: SharedBlock 0 1",
+            4,
+        ),
         (Refusal::Write(File::Order), "cannot write order", 6),
         (Refusal::Write(File::Report), "cannot write report", 6),
         (Refusal::Memory, "no memory", 7),
