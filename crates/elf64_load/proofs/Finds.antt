@@ -91,13 +91,6 @@ any-find q (x ∷ xs) =
       | inr fail ↦ rw fail (any-find q xs)
     ]
 
--- two tests that agree at each element find the same
-pub find-agree : {X : Type 0} (p q : X → Bool) (xs : List X) → All (λ x. p x ≡ q x) xs → find p xs ≡ find q xs
-find-agree p q [] all = refl
-find-agree p q (x ∷ xs) all =
-    ap (λ b. cond b (Some x) (find p xs)) (all 0 x (omega arith))
-    ∙ ap (cond (q x) (Some x)) (find-agree p q xs (All-tail (λ y. p y ≡ q y) x xs all))
-
 -- the first among what f makes of those that are kept, where the test passes at no other
 pub find-kept : {X Y : Type 0} (q : Y → Bool) (f : X → Y) (keep p : X → Bool) (xs : List X) → All (λ x. p x ≡ (keep x && q (f x))) xs → find q (map f (filter keep xs)) ≡ option_map f (find p xs)
 find-kept q f keep p [] all = refl

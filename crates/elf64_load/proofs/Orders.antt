@@ -1,15 +1,15 @@
 -- Spans in the order of their addresses, and the elements of the table that they stand for.
-use Rattle.std.proofs.Common.{◌≡◌, ◌≢◌, ℕ, zero, suc, ◌+◌, ◌-◌, ◌/◌, ◌<◌, ◌≤◌, Bool, true, false, ◌&&◌, cond, nat_lt, nat_le, List, [], ◌∷◌, length, get_or, take, count_by, Some, None, refl, ap, sym, ◌∙◌, inl, inr, add-zero, arith}
+use Rattle.std.proofs.Common.{◌≡◌, ◌≢◌, ℕ, zero, suc, ◌+◌, ◌-◌, ◌<◌, ◌≤◌, Bool, true, false, ◌&&◌, cond, nat_lt, nat_le, List, [], ◌∷◌, length, get_or, take, count_by, Some, None, refl, ap, sym, ◌∙◌, inl, inr, add-zero, arith}
 use Rattle.std.specs.List.{All, Contains, find, slice_get}
 use Rattle.std.specs.List.Sorted.{IsNonDecreasingBy, IsPartitionPoint}
-use Rattle.std.proofs.lemmas.Bool.{cases_Bool, cases_lt, cases_order, and_parts, and_from, and_left, and_right, leb-true, ltb-true, le-leb, lt-ltb, lt-leb, cond-true, cond-false}
+use Rattle.std.proofs.lemmas.Bool.{cases_Bool, cases_lt, cases_order, and_cases, and_parts, or_cases, or_parts, leb-false, ltb-false, and_from, and_left, and_right, leb-true, ltb-true, le-leb, lt-ltb, lt-leb, cond-true, cond-false}
 use Rattle.std.proofs.lemmas.Bool.Decides.{nat_tests}
 use Rattle.std.proofs.lemmas.List.Elements.{All-cons, All-nil, All-weaker}
 use Rattle.std.proofs.lemmas.List.{get_or_default, get_or-take, length-take-le}
 use Rattle.std.proofs.lemmas.Option.{slice_get-get_or}
 use Rattle.std.proofs.lemmas.List.Sorted.{All-permutation, sum_by-IsPermutation}
 use Rattle.std.proofs.lemmas.Map.Entries.{option_filter}
-use Rattle.elf64_load.specs.Layout.{spans_from, spans, meet, AreInOrder, AreApart}
+use Rattle.elf64_load.specs.Layout.{spans_from, spans, first_block, last_block, meet, touches, AreInOrder, AreApart, MeetsAnother}
 use Rattle.elf64_load.specs.declared.span.Span.{Span}
 use Rattle.elf64_load.proofs.Finds.{count-yes, count-no, count-two, find-none, find-only}
 
@@ -154,22 +154,76 @@ find-searched a order (suc q) within point rising once some =
 
 -- ---- blocks
 
--- the last block of the span at a place
-abbrev pub last_at : List Span → ℕ → Span → ℕ
-last_at order k d = ((get_or order k d).first + (get_or order k d).len - 1) / 128
-
--- the first one
-abbrev pub first_at : List Span → ℕ → Span → ℕ
-first_at order k d = (get_or order k d).first / 128
-
 -- a span that begins where those before it do not reach, and ends before the next one, meets none
-pub meets_none : (order : List Span) (k j : ℕ) (d : Span) (reach : ℕ) → IsNonDecreasingBy (λ (s : Span). s.first) order → k < length order → j < length order → j ≢ k → ((j : ℕ) (d : Span) → j < k → last_at order j d < reach) → (reach ≤ first_at order k d) × (k + 1 < length order → last_at order k d < first_at order (k + 1) d) → meet (get_or order k d) (get_or order j d) ≡ false
+pub meets_none : (order : List Span) (k j : ℕ) (d : Span) (reach : ℕ) → IsNonDecreasingBy (λ (s : Span). s.first) order → k < length order → j < length order → j ≢ k → ((j : ℕ) (d : Span) → j < k → last_block (get_or order j d) < reach) → (reach ≤ first_block (get_or order k d)) × (k + 1 < length order → last_block (get_or order k d) < first_block (get_or order (k + 1) d)) → meet (get_or order k d) (get_or order j d) ≡ false
 meets_none order k j d reach rising k_in j_in differ reached met =
     elim (cases_lt j k) [
       | inl before ↦ let low = reached j d before in
           let high = met.0 in
-          and_left (nat_le (first_at order k d) (last_at order j d)) (nat_le (first_at order j d) (last_at order k d)) (lt-leb (first_at order k d) (last_at order j d) (omega (arith, low, high)))
+          and_left (nat_le (first_block (get_or order k d)) (last_block (get_or order j d))) (nat_le (first_block (get_or order j d)) (last_block (get_or order k d))) (lt-leb (first_block (get_or order k d)) (last_block (get_or order j d)) (omega (arith, low, high)))
       | inr after ↦ let next = met.1 (omega arith) in
           let up = rising (k + 1) j d (omega arith) j_in in
-          and_right (nat_le (first_at order k d) (last_at order j d)) (nat_le (first_at order j d) (last_at order k d)) (lt-leb (first_at order j d) (last_at order k d) (omega (arith, next, up)))
+          and_right (nat_le (first_block (get_or order k d)) (last_block (get_or order j d))) (nat_le (first_block (get_or order j d)) (last_block (get_or order k d))) (lt-leb (first_block (get_or order j d)) (last_block (get_or order k d)) (omega (arith, next, up)))
+    ]
+
+-- which span reaches up to a block, of those before place k
+pub record ReachedBy (order : List Span) (k reach : ℕ) : Type 0 where
+  pub at : ℕ
+  pub before : at < k
+  pub is : (d : Span) → last_block (get_or order at d) + 1 ≡ reach
+
+-- what it means that a span touches no other
+pub untouched : (order : List Span) (k reach : ℕ) (d : Span) → touches order k reach d ≡ false → (reach ≤ first_block (get_or order k d)) × (k + 1 < length order → last_block (get_or order k d) < first_block (get_or order (k + 1) d))
+untouched order k reach d e =
+    let parts = or_parts _ _ e in (
+      ltb-false (first_block (get_or order k d)) reach parts.0,
+      λ within. elim (and_cases (nat_lt (k + 1) (length order)) (nat_le (first_block (get_or order (k + 1) d)) (last_block (get_or order k d))) parts.1) [
+        | inl past ↦ let le = ltb-false (k + 1) (length order) past in absurd (omega (arith, le, within))
+        | inr above ↦ leb-false (first_block (get_or order (k + 1) d)) (last_block (get_or order k d)) above
+      ],
+    )
+
+-- where one starts no higher than another, their blocks meet if the other starts no higher than its last block
+meet_both : (s t : Span) → 0 < t.len → s.first ≤ t.first → first_block t ≤ last_block s → meet t s ≡ true
+meet_both s t some up reach =
+    and_from (nat_le (first_block t) (last_block s)) (nat_le (first_block s) (last_block t)) (le-leb (first_block t) (last_block s) reach) (le-leb (first_block s) (last_block t) (omega arith))
+
+meet_comm : (s t : Span) → meet s t ≡ true → meet t s ≡ true
+meet_comm s t e =
+    let parts = and_parts (nat_le (first_block s) (last_block t)) (nat_le (first_block t) (last_block s)) e in
+    and_from (nat_le (first_block t) (last_block s)) (nat_le (first_block s) (last_block t)) parts.1 parts.0
+
+-- a span that touches another meets one
+pub touched : (order : List Span) (k reach : ℕ) (d : Span) → IsNonDecreasingBy (λ (s : Span). s.first) order → All (λ (s : Span). 0 < s.len) order → k < length order → (0 < reach → ReachedBy order k reach) → touches order k reach d ≡ true → MeetsAnother order (get_or order k d).place
+touched order k reach d rising some within by e =
+    elim (or_cases _ _ e) [
+      | inl low ↦ let below : first_block (get_or order k d) < reach = ltb-true (first_block (get_or order k d)) reach low in
+          let r = by (omega (arith, below)) in
+          let before = r.before in
+          record {
+            at = k;
+            other = r.at;
+            at_in = within;
+            other_in = omega (arith, before, within);
+            differ = λ same. omega (arith, before, same);
+            place_is = λ f. ap (λ (s : Span). s.place) (get_or_default order k f d within);
+            met = λ f. let same : get_or order k d ≡ get_or order k f = get_or_default order k d f within in
+                let first = ap first_block same in
+                let last = r.is f in
+                meet_both (get_or order r.at f) (get_or order k f) (some k f within) (rising r.at k f (omega (arith, before)) within) (omega (arith, below, first, last));
+          }
+      | inr next ↦ let parts = and_parts _ _ next in
+          let after : k + 1 < length order = ltb-true (k + 1) (length order) parts.0 in
+          let reached : first_block (get_or order (k + 1) d) ≤ last_block (get_or order k d) = leb-true (first_block (get_or order (k + 1) d)) (last_block (get_or order k d)) parts.1 in
+          record {
+            at = k;
+            other = k + 1;
+            at_in = within;
+            other_in = after;
+            differ = λ same. omega (arith, same);
+            place_is = λ f. ap (λ (s : Span). s.place) (get_or_default order k f d within);
+            met = λ f. let last = ap last_block (get_or_default order k d f within) in
+                let first = ap first_block (get_or_default order (k + 1) d f after) in
+                meet_comm (get_or order (k + 1) f) (get_or order k f) (meet_both (get_or order k f) (get_or order (k + 1) f) (some (k + 1) f after) (rising k (k + 1) f (omega arith) after) (omega (arith, reached, first, last)));
+          }
     ]

@@ -1,6 +1,6 @@
 -- How the regions of an image are kept: the bytes of all of them one behind the other, the segments in the order of
 -- the table, and the spans of those that have bytes in the order of their addresses.
-use Rattle.std.specs.Prelude.{◌≡◌, ℕ, true, ◌+◌, ◌-◌, ◌/◌, ◌≤◌, Bool, not, ◌&&◌, nat_lt, nat_le, if◌then◌else◌, List, [], ◌∷◌, ◌++◌, length, take, drop, map, filter, replicate, count_by}
+use Rattle.std.specs.Prelude.{◌≡◌, ◌≢◌, ◌<◌, ◌||◌, slice_index_or, ℕ, true, ◌+◌, ◌-◌, ◌/◌, ◌≤◌, Bool, not, ◌&&◌, nat_lt, nat_le, if◌then◌else◌, List, [], ◌∷◌, ◌++◌, length, take, drop, map, filter, replicate, count_by}
 use Rattle.std.specs.List.{All}
 use Rattle.std.specs.List.Sorted.{IsPermutation, IsNonDecreasingBy}
 use Rattle.elf64_load.specs.Image.{RegionView}
@@ -83,10 +83,32 @@ spans_from first len i (x ∷ xs) =
 abbrev pub spans : ℕ → Span → Bool
 spans a s = nat_le s.first a && nat_lt a (s.first + s.len)
 
--- they have bytes in one aligned block of 128 bytes
+-- the aligned blocks of 128 bytes with the first and with the last byte
+abbrev pub first_block : Span → ℕ
+first_block s = s.first / 128
+
+abbrev pub last_block : Span → ℕ
+last_block s = (s.first + s.len - 1) / 128
+
+-- they have bytes in one block
 abbrev pub meet : Span → Span → Bool
-meet s t =
-    nat_le (s.first / 128) ((t.first + t.len - 1) / 128) && nat_le (t.first / 128) ((s.first + s.len - 1) / 128)
+meet s t = nat_le (first_block s) (last_block t) && nat_le (first_block t) (last_block s)
+
+-- the span at k begins below a block, or the one behind it begins no later than this one ends
+abbrev pub touches : List Span → ℕ → ℕ → Span → Bool
+touches order k reach d =
+    nat_lt (first_block (slice_index_or order k d)) reach
+    || (nat_lt (k + 1) (length order) && nat_le (first_block (slice_index_or order (k + 1) d)) (last_block (slice_index_or order k d)))
+
+-- a span with this place in the table meets another
+pub record MeetsAnother (order : List Span) (place : ℕ) : Type 0 where
+  pub at : ℕ
+  pub other : ℕ
+  pub at_in : at < length order
+  pub other_in : other < length order
+  pub differ : other ≢ at
+  pub place_is : (d : Span) → (slice_index_or order at d).place ≡ place
+  pub met : (d : Span) → meet (slice_index_or order at d) (slice_index_or order other d) ≡ true
 
 -- these are the spans, from the lowest address up
 pub record AreInOrder (table order : List Span) : Type 0 where

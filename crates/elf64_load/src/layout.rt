@@ -1,7 +1,6 @@
 // The bytes of all segments, one behind the other.
-ghost use Rattle.std.specs.Prelude.{◌≡◌, ◌+◌, ◌++◌, ◌≤◌, ◌<◌, ◌^◌, IfOk, IsTrue, OnOk, length, sum_by, vec_len, is_none};
+ghost use Rattle.std.specs.Prelude.{◌≡◌, ◌+◌, ◌++◌, ◌≤◌, IfOk, OnOk, length, sum_by, vec_len};
 ghost use Rattle.std.specs.List.{All, flat_map};
-ghost use Rattle.elf64_load.specs.Elf.{is_load};
 ghost use Rattle.elf64_load.specs.Layout.{IsInFile, contents_of, segments_from, size_of};
 
 use crate::header::ProgramHeader;

@@ -1,5 +1,5 @@
 // The regions of an executable.
-ghost use Rattle.std.specs.Prelude.{◌≡◌, ◌+◌, ◌≤◌, ◌<◌, ◌&&◌, ◌^◌, ◌∷◌, IfOk, map, filter, length, nat_lt, option_map, sum_by, unwrap_or, None};
+ghost use Rattle.std.specs.Prelude.{◌≡◌, ◌≤◌, ◌<◌, ◌&&◌, IfOk, None, filter, length, map, nat_lt, option_map, sum_by, unwrap_or};
 ghost use Rattle.std.specs.List.{All, find, list_any};
 ghost use Rattle.std.specs.Option.{option_copied};
 ghost use Rattle.elf64_load.specs.Elf.{is_load, region_of};

@@ -1,11 +1,11 @@
 // Segments that share a block of memory.
-ghost use Rattle.std.specs.Prelude.{◌≡◌, ◌+◌, ◌≤◌, ◌<◌, ◌≢◌, ℕ, [], ◌∷◌, ◌++◌, ◌/◌, ◌-◌, IfOk, drop, false, length, nat_lt, slice_index_or, ◌||◌, ◌&&◌, nat_le};
+ghost use Rattle.std.specs.Prelude.{◌≡◌, ◌≢◌, ℕ, ◌<◌, ◌≤◌, IfOk, drop, false, if◌then◌else◌, length, min, slice_index_or};
 ghost use Rattle.std.specs.List.{All, position_from};
 ghost use Rattle.std.specs.List.Sorted.{IsNonDecreasingBy};
 ghost use Rattle.std.specs.Result.{result_err};
 ghost use Rattle.elf64_load.specs.Elf.{share_block};
 ghost use Rattle.elf64_load.specs.Faults.{shared};
-ghost use Rattle.elf64_load.specs.Layout.{AreInOrder, spans_of_headers, size_of, meet};
+ghost use Rattle.elf64_load.specs.Layout.{AreInOrder, MeetsAnother, touches, spans_of_headers, size_of, meet};
 
 use crate::fault::ElfFault;
 use crate::header::ProgramHeader;
@@ -37,6 +37,7 @@ pub fn check_blocks(headers: &[ProgramHeader], order: &[Span]) -> Result<(), Elf
     requires order { AreInOrder (spans_of_headers headers.now) order.now }
     ensures { result_err result ≡ shared 0 headers.now }
 {
+    // What the least place meets is a later one, so the pair is found in the first row.
     let least = least_meeting(order, headers.len() as u32);
     match first_pair(headers, least as usize) {
         Some(fault) => Err(fault),
@@ -74,8 +75,10 @@ fn partner(headers: &[ProgramHeader], header: &ProgramHeader, from: usize) -> Op
 
 // The least place, of `count`, whose span meets another's block; `count` if there is none.
 fn least_meeting(order: &[Span], count: u32) -> u32
-    requires { IsNonDecreasingBy (λ (s : Span). s.first) order.now }
+    requires rising { IsNonDecreasingBy (λ (s : Span). s.first) order.now }
+    requires some { All (λ (s : Span). 0 < s.len) order.now }
     ensures bound { result ≤ count }
+    ensures found { result < count → MeetsAnother order.now result }
     ensures below { (k j : ℕ) (d : Span) → k < length order.now → j < length order.now → j ≢ k
         → (slice_index_or order.now k d).place < result → meet (slice_index_or order.now k d) (slice_index_or order.now j d) ≡ false }
 {
@@ -88,12 +91,10 @@ fn least_meeting(order: &[Span], count: u32) -> u32
     least
 }
 
-// The lesser of `least` and of the place of span `k`, if it meets the next one or a block below `reach`.
+// The lesser of `least` and of the place of span `k`, if that begins below block `reach`, or the next one meets it.
 fn least_with(order: &[Span], k: usize, reach: u128, least: u32) -> u32
     requires { k < length order.now }
-    ensures same { result ≤ least }
-    ensures met { (d : Span) → (slice_index_or order.now k d).place < result → (reach ≤ (slice_index_or order.now k d).first / 128)
-        × (k + 1 < length order.now → ((slice_index_or order.now k d).first + (slice_index_or order.now k d).len - 1) / 128 < (slice_index_or order.now (k + 1) d).first / 128) }
+    ensures { (d : Span) → result ≡ (if touches order.now k reach d then min least (slice_index_or order.now k d).place else least) }
 {
     let span = order[k];
     let meets_next = k + 1 < order.len() && order[k + 1].first_block() <= span.last_block();

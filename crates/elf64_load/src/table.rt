@@ -2,7 +2,7 @@
 ghost use Rattle.std.specs.Prelude.{◌≡◌, ◌+◌, ◌*◌, ◌≤◌, IfOk, drop, length, take, vec_len};
 ghost use Rattle.std.specs.Result.{result_err};
 ghost use Rattle.elf64_load.specs.Elf as Elf;
-ghost use Rattle.elf64_load.specs.Elf.{entry_of, has_magic, is_big_64, number, table_start, header_count, headers};
+ghost use Rattle.elf64_load.specs.Elf.{entry_of, table_start, header_count, headers};
 ghost use Rattle.elf64_load.specs.Faults.{faults, first_some};
 
 use crate::fault::ElfFault;
