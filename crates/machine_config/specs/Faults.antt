@@ -66,7 +66,7 @@ given_by lines key =
 abbrev pub given : List ℕ → Key → ℕ
 given text key = given_by (lines text) key
 
--- mesh_width divides processors
+-- mesh_width must divide processors
 abbrev pub shape_fault : List ℕ → Option ConfigFault
 shape_fault text = if given text processors % given text mesh_width == 0 then None else Some MeshShape
 
