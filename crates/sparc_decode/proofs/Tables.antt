@@ -1,10 +1,9 @@
 -- Tables in which no two rows have the same key: each row is the one that is found for its key, and none for a key
 -- that no row has.
-use Rattle.std.specs.Prelude.{◌≡◌, ◌≢◌, ◌<◌, ℕ, zero, suc, Bool, true, false, ◌==◌, ◌&&◌, not, if◌then◌else◌, List, [], ◌∷◌, length, AllPairs, slice_index_or, All}
+use Rattle.std.specs.Prelude.{◌≡◌, ◌≢◌, ◌<◌, ℕ, zero, suc, Bool, true, false, ◌==◌, ◌&&◌, not, List, [], ◌∷◌, length, AllPairs, slice_index_or, All}
 use Rattle.std.proofs.Common.{arith, refl, sym}
 use Rattle.std.proofs.lemmas.Bool.Decides.{nat_tests}
 use Rattle.std.proofs.lemmas.List.Elements.{All-head, All-tail}
-use Rattle.sparc_decode.specs.declared.instr.Instr.{Instr}
 use Rattle.sparc_decode.specs.Forms as form
 use Rattle.sparc_decode.specs.Instr.{Row, by_row}
 
@@ -12,11 +11,6 @@ use Rattle.sparc_decode.specs.Instr.{Row, by_row}
 infixr 1 ◌also◌
 pub ◌also◌ : {A B : Type 0} → A → B → A × B
 a also b = (a, b)
-
--- what holds of two instructions holds of the one that a test takes
-pub either_of : (P : Instr → Type 0) (b : Bool) (x y : Instr) → P x → P y → P (if b then x else y)
-either_of P true x y p q = p
-either_of P false x y p q = q
 
 -- no row has this key
 abbrev pub is_fresh : ℕ → List Row → Bool

@@ -1,8 +1,9 @@
 //! The fields of an instruction word, by their names in the manual (SPARC V9, 6.2).
 
-ghost use Rattle.std.specs.Prelude.{◌≡◌, ◌<◌, ◌≤◌, ◌^◌, ◌*ℤ◌, pos, ◌*◌};
+ghost use Rattle.std.specs.Prelude.{◌≡◌, if◌then◌else◌, ◌<◌, ◌≤◌, ◌^◌, ◌*ℤ◌, pos, ◌*◌};
 ghost use Rattle.sparc_decode.specs.Fields as field;
 ghost use Rattle.sparc_decode.specs.Forms as form;
+ghost use Rattle.sparc_decode.specs.declared.instr.Src2.TheVariants.{Reg, Imm};
 
 use crate::instr::Src2;
 
@@ -50,59 +51,50 @@ pub fn is_immediate(word: u32) -> bool
     word >> 13 & 1 == 1
 }
 
+/// The register rs2, or with i set an immediate.
+fn register_or(immediate: i64, word: u32) -> Src2
+    ensures { result ≡ (if field.i word then Imm immediate else Reg (field.rs2 word)) }
+{
+    if is_immediate(word) {
+        Src2::Imm(immediate)
+    } else {
+        Src2::Reg(rs2(word))
+    }
+}
+
 /// Operand 2: a register or simm13.
 pub fn operand2(word: u32) -> Src2
     ensures { result ≡ form.operand2 word }
 {
-    if is_immediate(word) {
-        Src2::Imm(sign_extend(word & 0x1fff, 13))
-    } else {
-        Src2::Reg(rs2(word))
-    }
+    register_or(sign_extend(word & 0x1fff, 13), word)
 }
 
 /// What MOVcc moves: a register or simm11.
 pub fn moved_on_codes(word: u32) -> Src2
     ensures { result ≡ form.with_rs2 field.simm11 word }
 {
-    if is_immediate(word) {
-        Src2::Imm(sign_extend(word & 0x7ff, 11))
-    } else {
-        Src2::Reg(rs2(word))
-    }
+    register_or(sign_extend(word & 0x7ff, 11), word)
 }
 
 /// What MOVr moves: a register or simm10.
 pub fn moved_on_register(word: u32) -> Src2
     ensures { result ≡ form.with_rs2 field.simm10 word }
 {
-    if is_immediate(word) {
-        Src2::Imm(sign_extend(word & 0x3ff, 10))
-    } else {
-        Src2::Reg(rs2(word))
-    }
+    register_or(sign_extend(word & 0x3ff, 10), word)
 }
 
 /// The count of a shift of 32 bits.
 pub fn narrow_count(word: u32) -> Src2
     ensures { result ≡ form.narrow_count word }
 {
-    if is_immediate(word) {
-        Src2::Imm(i64::from(word & 0x1f))
-    } else {
-        Src2::Reg(rs2(word))
-    }
+    register_or(i64::from(word & 0x1f), word)
 }
 
 /// The count of a shift of 64 bits.
 pub fn wide_count(word: u32) -> Src2
     ensures { result ≡ form.wide_count word }
 {
-    if is_immediate(word) {
-        Src2::Imm(i64::from(word & 0x3f))
-    } else {
-        Src2::Reg(rs2(word))
-    }
+    register_or(i64::from(word & 0x3f), word)
 }
 
 /// Whether a shift is over 64 bits: the field x.
