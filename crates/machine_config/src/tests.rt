@@ -139,7 +139,7 @@ fn fault_at(alloc: Global, key: &str, number: u32) -> Result<Option<ConfigFault>
 
 #[test]
 fn a_text_that_says_nothing_gives_the_defaults(rt: HostRuntime) -> Result<(), Fail> {
-    assert_eq!(rt; read(rt.alloc(), b"\n")?, DEFAULTS);
+    assert_eq!(rt; read(rt.alloc(), b"")?, DEFAULTS);
     assert_eq!(rt;
         read(rt.alloc(), b"# processors 2\n \t\r\n#\n   # model rc\n")?,
         DEFAULTS
