@@ -116,7 +116,7 @@ pub record StopsAtOrder (old new : Outside) (want : Asked) : Type 0 where
   pub order : HasPrefixOfFile want.order (order_of made.order made.steps) old.files new.files
   pub report : new.written ≡ old.written
 
--- the order is whole, and some first part of the report was written
+-- the order is whole, and a prefix of the report was written
 pub record StopsAtReport (old new : Outside) (want : Asked) : Type 0 where
   pub made : AskedRun old want
   pub order : HasFile want.order (order_of made.order made.steps) old.files new.files

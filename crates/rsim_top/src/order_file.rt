@@ -15,7 +15,7 @@ const PIECE: usize = 65_536;
 /// Makes the file of this name and writes the order of one processor to it, in pieces.
 ///
 /// # Errors
-/// What the shelf answers, and `Memory` where a line finds no room. The file then has some first part of
+/// What the shelf answers, and `Memory` where a line finds no room. The file then has a prefix of
 /// the order.
 pub fn store_order<S: Shelf>(
     alloc: Global,
