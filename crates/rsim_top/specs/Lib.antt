@@ -1,5 +1,4 @@
 pub mod Answers
-pub mod Axioms
 pub mod Command
 pub mod Fit
 pub mod Hex
