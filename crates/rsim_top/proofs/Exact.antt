@@ -1,5 +1,5 @@
 -- That a cause is always answered, from what each answer says.
-use Rattle.std.proofs.Common.{◌≡◌, ℕ, ◌<◌, ◌≤◌, List, length, Option, None, Some, Result, Ok, Err, IfSome, IsSomeAnd, inl, inr, subst, refl, sym, ap, ◌∙◌, arith}
+use Rattle.std.proofs.Common.{◌≡◌, ℕ, ◌<◌, ◌≤◌, List, length, Option, Some, Result, Ok, Err, IfSome, IsSomeAnd, inl, inr, subst, refl, sym, ap, ◌∙◌, arith}
 use Rattle.std.specs.FinMap.{get}
 use Rattle.rsim_io.specs.Files.{Files}
 use Rattle.elf64_load.specs.Faults.{first_fault, Loads}

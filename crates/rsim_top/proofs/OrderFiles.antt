@@ -6,7 +6,7 @@ use Rattle.rsim_base.specs.declared.memory.Access.{Access}
 use Rattle.rsim_base.specs.declared.memory.Model.TheVariants.{Sc}
 use Rattle.rsim_io.specs.Files.{Files}
 use Rattle.rsim_top.specs.Machine.{order_of}
-use Rattle.rsim_top.specs.OrderText.{heading, line, ending}
+use Rattle.order_certificate.specs.OrderText.{heading, line, ending}
 use Rattle.rsim_top.proofs.Stored.{IsSoFar, IsSoFar-more}
 use Rattle.rsim_top.proofs.Texts.{lines_more, order_of-end}
 

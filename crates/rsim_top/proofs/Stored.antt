@@ -1,14 +1,13 @@
 -- What stands after a file was made and written in pieces, or not whole, and after some of a stream was.
-use Rattle.std.proofs.Common.{◌≡◌, ℕ, List, [], ◌++◌, Option, Some, None, Result, Ok, Err, Bool, true, false, cond, take, drop, option_map, unwrap_or, OnOk, OnErr, refl, sym, ap, ◌∙◌, inl, inr, ⊎_elim, append-nil, append_assoc, subst, nat_cmp}
+use Rattle.std.proofs.Common.{◌≡◌, ℕ, List, [], ◌++◌, Option, Some, None, Result, Ok, Err, Bool, true, false, cond, take, drop, option_map, unwrap_or, OnOk, OnErr, refl, sym, ap, ◌∙◌, inr, ⊎_elim, append-nil, append_assoc, subst, nat_cmp}
 use Rattle.std.proofs.lemmas.List.{take-append-drop}
 use Rattle.std.specs.Ordering.{eq_by_cmp}
 use Rattle.std.specs.Cmp.{eq_by_cmp_equiv}
 use Rattle.std.specs.Cmp.Lexicographic.{slice_cmp, nat_list_cmp_total}
 use Rattle.std.specs.FinMap.{get, insert, get-insert, same_map, slice_cmp-IsAntisymmetric, nat_cmp-IsAntisymmetric}
-use Rattle.rsim_io.specs.Files.{Files, with_more, Creates, Appends}
+use Rattle.rsim_io.specs.Files.{Files, with_more, Appends}
 use Rattle.rsim_io.specs.Written.{Puts}
 use Rattle.rsim_io.specs.declared.shelf.StoreFault.{StoreFault}
-use Rattle.rsim_io.specs.declared.shelf.StoreFault.TheVariants.{Failed, Memory}
 use Rattle.rsim_top.specs.Answers.{IsPrefix, HasFile, HasPrefixOfFile, HasPrefixWritten}
 
 -- the bytes of a name that was just set

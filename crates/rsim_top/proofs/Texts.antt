@@ -1,5 +1,5 @@
 -- The texts of the machine's order and report, piece by piece.
-use Rattle.std.proofs.Common.{◌≡◌, ◌+◌, ℕ, zero, suc, Some, slice_get, add-one, List, [], ◌∷◌, ◌++◌, take, drop, codes, decimal, length, append_assoc, append-nil, arith, refl, sym, ap, ◌∙◌}
+use Rattle.std.proofs.Common.{◌≡◌, ◌+◌, ℕ, zero, suc, Some, slice_get, add-one, List, [], ◌∷◌, ◌++◌, take, drop, codes, decimal, length, append_assoc, arith, refl, sym, ap, ◌∙◌}
 use Rattle.std.proofs.lemmas.Fmt.{decimal_digit}
 use Rattle.std.proofs.lemmas.List.{take-append-drop, flat_map_more}
 use Rattle.std.proofs.lemmas.List.Concat.{flat_map-append}
@@ -7,17 +7,9 @@ use Rattle.std.specs.List.{flat_map}
 use Rattle.rsim_base.specs.declared.memory.Access.{Access}
 use Rattle.rsim_base.specs.declared.memory.Model.TheVariants.{Sc}
 use Rattle.sparc_meaning.specs.declared.arch.End.{End}
-use Rattle.rsim_top.specs.OrderText.{heading, line, ending}
+use Rattle.order_certificate.specs.OrderText.{heading, line, ending}
 use Rattle.rsim_top.specs.Machine.{order_of, report_of}
 use Rattle.rsim_top.specs.ReportText.{report, end_text}
-
-pub heading-text : heading Sc 1 ≡ codes "rsim order 1\nmodel sc\nprocessors 1\n"
-unfolding heading
-heading-text = rw (decimal_digit 1 (omega arith)) refl
-
-pub ending-text : (steps : ℕ) → ending (steps ∷ []) ≡ codes "end " ++ (decimal steps ++ codes "\n")
-unfolding ending
-ending-text steps = rw (append-nil (decimal steps)) refl
 
 -- an order that is written so far, and what follows
 pub order_of-parts : (order : List Access) (steps i : ℕ) → (heading Sc 1 ++ flat_map line (take i order)) ++ (flat_map line (drop i order) ++ ending (steps ∷ [])) ≡ order_of order steps

@@ -1,6 +1,6 @@
 -- The answers of `run_command`: what each of them says of the command line, the files and the failures,
 -- and what stands after it.
-use Rattle.std.specs.Prelude.{◌≡◌, ◌⊎◌, ℕ, ◌<◌, ◌≤◌, false, List, [], ◌∷◌, ◌++◌, length, slice_get, Option, Some, None, Result, Ok, Err, IfSome, IsSomeAnd, option_map}
+use Rattle.std.specs.Prelude.{◌≡◌, ◌⊎◌, ℕ, ◌<◌, ◌≤◌, false, List, [], ◌∷◌, ◌++◌, length, slice_get, Option, Some, Result, Ok, Err, IfSome, IsSomeAnd, option_map}
 use Rattle.std.specs.FinMap.{get, insert}
 use Rattle.rsim_base.specs.declared.memory.Access.{Access}
 use Rattle.rsim_base.specs.declared.memory.Model.TheVariants.{Sc}
@@ -18,7 +18,7 @@ use Rattle.rsim_top.specs.declared.refusal.WordsFault.{WordsFault}
 use Rattle.rsim_top.specs.declared.refusal.Refusal.TheVariants.{Words, Read, Big, Elf, Write, Memory}
 use Rattle.rsim_top.specs.declared.command.Reported.{Reported}
 use Rattle.rsim_top.specs.Machine.{order_of, report_of}
-use Rattle.rsim_top.specs.OrderText.{IsPrintable}
+use Rattle.order_certificate.specs.OrderText.{IsPrintable}
 use Rattle.rsim_top.specs.Fit.{Fit}
 use Rattle.rsim_top.specs.Words.{Asked, asked}
 

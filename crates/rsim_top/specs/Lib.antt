@@ -1,12 +1,9 @@
 pub mod Answers
-pub mod Axioms
 pub mod Command
 pub mod Fit
-pub mod Hex
 pub mod Machine
 pub mod Memory
 pub mod Order
-pub mod OrderText
 pub mod Parts
 pub mod Processor
 pub mod Refusals

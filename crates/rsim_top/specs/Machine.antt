@@ -4,7 +4,7 @@ use Rattle.std.specs.Prelude.{ℕ, List, [], ◌∷◌, replicate}
 use Rattle.rsim_base.specs.declared.memory.Access.{Access}
 use Rattle.rsim_base.specs.declared.memory.Model.TheVariants.{Sc}
 use Rattle.sparc_meaning.specs.declared.arch.End.{End}
-use Rattle.rsim_top.specs.OrderText.{certificate}
+use Rattle.order_certificate.specs.OrderText.{certificate}
 use Rattle.rsim_top.specs.ReportText.{report}
 
 -- its order, under sequential consistency

@@ -3,7 +3,7 @@ use Rattle.std.specs.Prelude.{◌≡◌, ℕ, ◌<◌, true, List, Option, Some,
 use Rattle.rsim_base.specs.declared.memory.Access.{Access}
 use Rattle.rsim_base.specs.declared.memory.Model.{Model}
 use Rattle.rsim_base.specs.Made.{Made}
-use Rattle.rsim_top.specs.Axioms.{needs}
+use Rattle.order_axioms.specs.Axioms.{needs}
 
 -- access i of program p
 abbrev pub made_at : List (List Made) → ℕ → ℕ → Option Made

@@ -8,7 +8,7 @@ use Rattle.sparc_meaning.specs.Run.{Ran, run}
 use Rattle.rsim_top.specs.declared.processor.Processor.{Processor}
 use Rattle.rsim_base.specs.Accesses.{stores}
 use Rattle.rsim_top.specs.Memory.{byte_in}
-use Rattle.rsim_top.specs.OrderText.{IsPrintable}
+use Rattle.order_certificate.specs.OrderText.{IsPrintable}
 use Rattle.rsim_top.specs.Values.{Explains, stored_byte}
 
 abbrev pub loaded_values : List Access → List ℕ

@@ -1,7 +1,7 @@
 -- The text of a report.
 use Rattle.std.specs.Prelude.{ℕ, ◌+◌, List, [], ◌∷◌, ◌++◌, length, codes, decimal}
 use Rattle.std.specs.List.{concat}
-use Rattle.rsim_top.specs.Hex.{hex}
+use Rattle.order_certificate.specs.Hex.{hex}
 use Rattle.sparc_meaning.specs.declared.arch.End.{End}
 use Rattle.sparc_meaning.specs.declared.arch.End.TheVariants.{Running, Exit, Trapped}
 

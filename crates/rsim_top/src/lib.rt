@@ -4,7 +4,6 @@
 mod command;
 mod memory;
 mod order_file;
-mod order_text;
 mod processor;
 mod refusal;
 mod report_text;

@@ -4,8 +4,8 @@ ghost use Rattle.rsim_io.specs.Faults.{HasCause};
 ghost use Rattle.rsim_top.specs.Answers.{HasFile, HasPrefixOfFile};
 ghost use Rattle.rsim_top.specs.Machine.{order_of};
 
-use crate::order_text::{push_ending, push_heading, push_line};
-use rsim_base::Access;
+use order_certificate::{begin, entry, finish};
+use rsim_base::{Access, Model};
 use rsim_io::{Shelf, StoreFault};
 use std::alloc::Global;
 
@@ -30,11 +30,11 @@ pub fn store_order<S: Shelf>(
 {
     shelf.create(name)?;
     let mut piece = Vec::new(alloc);
-    let Ok(()) = push_heading(&mut piece) else {
+    let Ok(()) = begin(&mut piece, Model::Sc, 1) else {
         return Err(StoreFault::Memory);
     };
     for access in order {
-        let Ok(()) = push_line(&mut piece, access) else {
+        let Ok(()) = entry(&mut piece, access) else {
             return Err(StoreFault::Memory);
         };
         if piece.len() >= PIECE {
@@ -42,7 +42,10 @@ pub fn store_order<S: Shelf>(
             piece.clear();
         }
     }
-    let Ok(()) = push_ending(&mut piece, retired) else {
+    let Ok(counts) = vec![in alloc; retired] else {
+        return Err(StoreFault::Memory);
+    };
+    let Ok(()) = finish(&mut piece, &counts) else {
         return Err(StoreFault::Memory);
     };
     shelf.append(name, &piece)

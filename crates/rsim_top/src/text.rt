@@ -20,8 +20,8 @@ pub fn push(text: &mut Vec<u8>, piece: &[u8]) -> Result<(), NoMemory>
     text.extend_from_slice(piece).map_err(|_| NoMemory)
 }
 
-/// Puts one byte.
-pub fn push_byte(text: &mut Vec<u8>, byte: u8) -> Result<(), NoMemory>
+// Puts one byte.
+fn push_byte(text: &mut Vec<u8>, byte: u8) -> Result<(), NoMemory>
     ensures { OnOk result (text.new.items ≡ text.old.items ++ byte ∷ []) }
 {
     text.push(byte).map_err(|_| NoMemory)

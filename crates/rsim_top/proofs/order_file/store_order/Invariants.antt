@@ -1,7 +1,7 @@
 use Rattle.std.proofs.Common.{◌≤◌, ◌++◌, take}
 use Rattle.std.specs.List.{flat_map}
 use Rattle.rsim_base.specs.declared.memory.Model.TheVariants.{Sc}
-use Rattle.rsim_top.specs.OrderText.{heading, line}
+use Rattle.order_certificate.specs.OrderText.{heading, line}
 use Rattle.rsim_top.proofs.Stored.{IsSoFar}
 use Rattle.rsim_top.proofs.order_file.store_order.Given as goal
 

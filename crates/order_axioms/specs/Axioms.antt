@@ -1,6 +1,6 @@
 -- Which accesses of one program must stand in their program's order, under each consistency model. The
 -- models are those of this project's orders; sc is Lamport's sequential consistency.
-use Rattle.std.specs.Prelude.{Bool, true, false, not, ◌&&◌, ◌||◌, nat_lt}
+use Rattle.std.specs.Prelude.{Bool, true, not, ◌&&◌, ◌||◌, nat_lt}
 use Rattle.rsim_base.specs.Accesses.{loads, stores, overlap}
 use Rattle.rsim_base.specs.declared.memory.Access.{Access}
 use Rattle.rsim_base.specs.declared.memory.Model.{Model}

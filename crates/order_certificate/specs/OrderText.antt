@@ -9,7 +9,7 @@ use Rattle.rsim_base.specs.declared.memory.Model.{Model}
 use Rattle.rsim_base.specs.declared.memory.Model.TheVariants.{Sc, Pc, Rc}
 use Rattle.rsim_base.specs.declared.memory.Size.{Size}
 use Rattle.rsim_base.specs.Accesses.{loads, stores}
-use Rattle.rsim_top.specs.Hex.{hex}
+use Rattle.order_certificate.specs.Hex.{hex}
 
 abbrev pub model_name : Model → List ℕ
 model_name Sc = codes "sc"

@@ -1,5 +1,5 @@
-use Rattle.rsim_top.proofs.Hex.{value_text-last}
-use Rattle.rsim_top.proofs.order_text.push_hex.Goals as goal
+use Rattle.order_certificate.proofs.Hex.{value_text-last}
+use Rattle.order_certificate.proofs.writing.push_hex.Goals as goal
 
 pub returns : goal.returns
 returns c =

@@ -1,0 +1,15 @@
+//! Which accesses of one program must keep their order under each consistency model, and the counts of fences that
+//! decide it.
+#![tactic(auto)]
+
+mod axioms;
+mod counting;
+mod laws;
+mod mask;
+
+pub use axioms::needs;
+pub use counting::Fences;
+pub use laws::models_are_nested;
+
+#[cfg(test)]
+mod tests;
