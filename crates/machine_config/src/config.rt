@@ -14,48 +14,81 @@ pub enum Protocol {
     Mesi,
 }
 
-/// A branch predictor: the same answer each time, or two-bit counters.
+/// A branch predictor: by the instruction alone, or by two-bit counters.
 #[derive(Clone, Copy, Debug, PartialEq, Eq)]
 pub enum PredictorKind {
     Static,
     TwoBit,
 }
 
-/// The settings of a machine: one field for each key of a configuration.
+/// The settings of a machine: one field for each key of a configuration, with the ranges that `read` keeps.
 #[derive(Clone, Copy, Debug, PartialEq, Eq)]
 pub struct Config {
+    /// The nodes of the machine, 1 to 16: each is a processor with its caches, and the home of a share of memory.
     pub processors: u32,
+    /// The columns of the mesh that joins the nodes, 1 to 16. It divides `processors`.
     pub mesh_width: u32,
+    /// The consistency model.
     pub model: Model,
+    /// Whether loads bind their values before the model orders them, and are rolled back where that shows.
     pub speculate: bool,
+    /// Whether a line is asked for to own as soon as a store to it is known.
     pub store_prefetch: bool,
+    /// The directory protocol.
     pub protocol: Protocol,
+    /// Bytes of a cache line: a power of two from 16 to 128.
     pub line: u32,
+    /// Sets of a first-level cache: a power of two from 1 to 1,024.
     pub l1_sets: u32,
+    /// Lines in each of these sets, 1 to 8.
     pub l1_ways: u32,
+    /// Sets of a second-level cache: a power of two from 1 to 4,096.
     pub l2_sets: u32,
+    /// Lines in each of these sets, 1 to 16.
     pub l2_ways: u32,
+    /// Misses that a node may have open at once, 1 to 16, and slots for lines that are written back.
     pub miss_registers: u32,
+    /// Instructions that a core may have in flight, 4 to 128.
     pub active_list: u32,
+    /// Physical registers beyond the architectural ones, 8 to 512.
     pub rename_registers: u32,
+    /// Instructions that are fetched, and that are dispatched, a cycle, 1 to 8.
     pub fetch_width: u32,
+    /// Fetched instructions that may wait for dispatch, 1 to 32.
     pub fetch_queue: u32,
+    /// Instructions that are retired a cycle, 1 to 8.
     pub retire_width: u32,
+    /// Retired stores that may wait to be performed, 1 to 32.
     pub store_buffer: u32,
+    /// Loads that are bound a cycle, 1 to 4.
     pub ports: u32,
+    /// Units for all that is neither multiplied nor divided, addresses too, 1 to 8.
     pub alu_units: u32,
+    /// Cycles from the issue to one of these units to the result, 1 to 8.
     pub alu_latency: u32,
+    /// Units for multiplications, 1 to 4.
     pub mul_units: u32,
+    /// Cycles from the issue of a multiplication to its result, 1 to 32.
     pub mul_latency: u32,
+    /// Units for divisions, 1 to 4.
     pub div_units: u32,
+    /// Cycles from the issue of a division to its result, 1 to 64.
     pub div_latency: u32,
+    /// How branches are predicted.
     pub predictor: PredictorKind,
+    /// Counters of a two-bit predictor: a power of two from 16 to 4,096.
     pub predictor_size: u32,
+    /// Return addresses that are kept for the prediction of returns, 1 to 32.
     pub return_stack: u32,
+    /// Cycles from a load's binding to its result, 1 to 8.
     pub l1_latency: u32,
+    /// Ticks to bring a line near from the second level, 1 to 64.
     pub l2_latency: u32,
+    /// Ticks that a home takes to answer, 1 to 200.
     pub home_latency: u32,
+    /// Bytes of a flit, the unit in which messages cross the mesh: 4, 8 or 16.
     pub flit_bytes: u32,
+    /// Flits that a port of a router holds for each class of messages, 1 to 16.
     pub router_depth: u32,
 }
 
