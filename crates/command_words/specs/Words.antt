@@ -10,10 +10,12 @@ use Rattle.std.specs.Str.{bytes_eq}
 abbrev pub Text : Type 0
 Text = List ℕ
 
+-- the names and the seeds, each in order
 pub record Said : Type 0 where
   pub names : List Text
   pub seeds : List Text
 
+-- `--`, `--generate`, and `--generate=V`
 abbrev pub is_dashes : Text → Bool
 is_dashes word = bytes_eq word (codes "--")
 
@@ -23,10 +25,11 @@ is_generate word = bytes_eq word (codes "--generate")
 abbrev pub has_value : Text → Bool
 has_value word = starts_with nat_eq word (codes "--generate=")
 
--- two or more bytes that begin with '-'
+-- it looks like an option: two or more bytes that begin with '-'
 abbrev pub is_option : Text → Bool
 is_option word = nat_le 2 (length word) && (slice_index word 0 == 45)
 
+-- names alone
 abbrev pub only_names : List Text → Option Said
 only_names words = Some (record { names = words; seeds = [] })
 
@@ -42,6 +45,7 @@ abbrev pub alone : Text → Option Said → Option Said
 alone word later = if has_value word then with_seed (drop 11 word) later
     else (if is_option word then None else with_name word later)
 
+-- what words say, or none where they are refused
 unfoldable pub said : List Text → Option Said
 said [] = only_names []
 said (word ∷ []) = if is_dashes word then only_names [] else alone word (only_names [])

@@ -6,15 +6,19 @@ ghost use Rattle.command_words.specs.Commands.{plain_app, base_app, run_app, che
 use clap::{Arg, Command};
 use std::alloc::{AllocError, Global};
 
-/// Names of arguments. A name's place is all that tells what it is a name of.
+/// The option, which takes a seed.
 pub(crate) const GENERATE: &str = "generate";
 
+/// The first name. What a name stands for depends on how many there are.
 pub(crate) const FIRST: &str = "first";
 
+/// The second name.
 pub(crate) const SECOND: &str = "second";
 
+/// The third name.
 pub(crate) const THIRD: &str = "third";
 
+/// The fourth name.
 pub(crate) const FOURTH: &str = "fourth";
 
 /// `rsim`: four names, or three beside a seed.
@@ -43,7 +47,8 @@ fn base_command<'a>(alloc: Global) -> Result<Command<'a>, AllocError>
         .arg(Arg::new(alloc, FIRST).required(true))
 }
 
-// The words begin after the program's name, and `--help` and `--version` are no options.
+// The words begin after the program's name, and `--help` and `--version` are no options. The name of
+// the command is shown nowhere.
 fn plain_command<'a>(alloc: Global) -> Command<'a>
     ensures { app_of result ≡ plain_app }
 {

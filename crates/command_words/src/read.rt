@@ -7,6 +7,7 @@ use crate::fault::{BadWords, WordsFault};
 use crate::shape::{Origin, check_texts, run_texts};
 use std::alloc::Global;
 
+// The greatest seed, and the greatest bound on the cycles of a run.
 const MAX_SEED: u32 = u32::MAX;
 
 const MAX_CYCLES: u32 = 8_000_000;
@@ -84,6 +85,7 @@ pub fn read_check<'a>(alloc: Global, words: &'a [String]) -> Result<CheckWords<'
     })
 }
 
+// Reads the seed, where there is one.
 fn executable_from<'a>(origin: Origin<'a>) -> Result<Executable<'a>, WordsFault>
     ensures { AsksExecutable (executable_from (origin_of origin.entry)) result }
 {
@@ -104,6 +106,7 @@ fn number(word: &str, least: u32, most: u32) -> Option<u32>
     if !is_number(word) {
         return None;
     }
+    // Ten digits fit 64 bits.
     let Ok(number) = word.parse::<u64>() else {
         return None;
     };

@@ -11,7 +11,9 @@ use std::alloc::Global;
 /// Where the executable comes from, before its seed is read.
 #[derive(Clone, Copy)]
 pub(crate) enum Origin<'a> {
+    /// The file of this name.
     Named(&'a str),
+    /// It is made from the seed that this word gives.
     Seeded(&'a str),
 }
 
@@ -33,6 +35,7 @@ pub(crate) struct CheckTexts<'a> {
 
 ghost use Rattle.command_words.specs.Reading.{HasRunShape, HasCheckShape};
 
+/// Tells the words of a run apart. The only faults are those of the words' shape.
 pub(crate) fn run_texts<'a>(alloc: Global, words: &'a [String]) -> Result<RunTexts<'a>, BadWords>
     ensures { HasRunShape (run_shape_of (said (map string_bytes words.now))) result }
 {
@@ -61,6 +64,7 @@ pub(crate) fn run_texts<'a>(alloc: Global, words: &'a [String]) -> Result<RunTex
     }
 }
 
+/// Tells the words of a check apart. The only faults are those of the words' shape.
 pub(crate) fn check_texts<'a>(
     alloc: Global,
     words: &'a [String],

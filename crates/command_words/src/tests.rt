@@ -58,7 +58,7 @@ const RUNS: [(&str, Executable<'static>, &str, u32, &str); 15] = [
 ];
 
 // Words of `rsim`, and their first fault.
-const RUN_FAULTS: [(&str, WordsFault); 30] = [
+const RUN_FAULTS: [(&str, WordsFault); 31] = [
     // The option has no value, or stands twice.
     ("c 9 o --generate", WordsFault::Shape),
     ("c 9 --generate -- o", WordsFault::Shape),
@@ -93,7 +93,8 @@ const RUN_FAULTS: [(&str, WordsFault); 30] = [
     // Cycles.
     ("e c 0 o", WordsFault::Cycles),
     ("e c 8000001 o", WordsFault::Cycles),
-    // The seed is looked at before the cycles.
+    // The shape is looked at first, then the seed, then the cycles.
+    ("--generate x c 0", WordsFault::Shape),
     ("--generate x c 0 o", WordsFault::Seed),
 ];
 
