@@ -13,6 +13,7 @@ use Rattle.command_words.specs.Words.{Text}
 use Rattle.command_words.proofs.Rows.{IsValueRule, value_row, row_at, used-new, row_at-push, row_at-push-other, slice_get-push, slice_get-push-other, slice_get-past, slice_get-within}
 use Rattle.command_words.proofs.Reader.{Fails, IsReader, use_fault-new}
 
+-- what is held, and where the walk stands with it
 abbrev pub held_at : List Row → Option (Text × List Text) → Held
 held_at rows p = record { rows = rows; pending = p; skip = 0 }
 
@@ -59,6 +60,7 @@ module _ (s : Shape) (choice : Rule) (names : List Rule) (r : IsReader s choice 
   new_name : (rows : List Row) (ns ss : List Text) (a : Rule) → Found rows ns ss → slice_get names (length ns) ≡ Some a → row_at a.id rows ≡ None
   new_name rows ns ss a f at = f.name (length ns) a at ∙ ap (option_map (value_row a)) (slice_get-past ns)
 
+  -- what is found once a name has joined, in its place and in the others
   found_here : (rows : List Row) (ns ss : List Text) (a b : Rule) (word : Text) (k : ℕ) → Found rows ns ss → slice_get names (length ns) ≡ Some a
       → slice_get names k ≡ Some b → k ≡ length ns → row_at b.id (rows ++ value_row a word ∷ []) ≡ option_map (value_row b) (slice_get (ns ++ word ∷ []) k)
   found_here rows ns ss a b word k f at bt e =
@@ -97,6 +99,7 @@ module _ (s : Shape) (choice : Rule) (names : List Rule) (r : IsReader s choice 
 
   -- ---- the pending argument
 
+  -- its use gives its row, and has no fault
   pub settled_pending : (a : Rule) (v : Text) (rows : List Row) → IsValueRule s.rules a → row_at a.id rows ≡ None
       → settled_rows s.rules (Some (a.id, v ∷ [])) rows ≡ rows ++ value_row a v ∷ []
   settled_pending a v rows rule none = rw (rule.by_id) (used-new s.rules a v rows rule none)
@@ -105,6 +108,7 @@ module _ (s : Shape) (choice : Rule) (names : List Rule) (r : IsReader s choice 
       → settle_fault s.rules false (held_at rows (Some (a.id, v ∷ []))) ≡ []
   settles_pending a v rows rule none = rw (rule.by_id) (use_fault-new s.rules a v rows rule none)
 
+  -- its use has a fault
   pub fails_pending : (a : Rule) (values : List Text) (rows : List Row) → IsValueRule s.rules a → Fails (use_fault false a values rows)
       → Fails (settle_fault s.rules false (held_at rows (Some (a.id, values))))
   fails_pending a values rows rule bad = rw (rule.by_id) bad

@@ -65,6 +65,7 @@ pub record IsName (word : Text) : Type 0 where
   pub long : long_of word ≡ None
   pub short : short_of word ≡ None
 
+-- each word is of one kind
 pub data Kind (word : Text) : Type 0 where
   dashes : IsDashes word → Kind word
   bare : IsBare word → Kind word
@@ -82,6 +83,8 @@ two_or_more x y ys = grind (arith, nat_tests)
 
 looks_so : (y : ℕ) (ys : Text) → is_option (45 ∷ y ∷ ys) ≡ true
 looks_so y ys = rw (two_or_more 45 y ys) refl
+
+-- ---- words of one hyphen at most
 
 no_hyphen : (x : ℕ) (xs : Text) → (x == 45) ≡ false → IsName (x ∷ xs)
 no_hyphen x xs e =
@@ -167,6 +170,7 @@ valued_word v = record {
   long = ap Some (name_and_value-at (codes "generate") v generate_lacks);
 }
 
+-- two hyphens, and the rest
 abbrev after : Text → Text
 after rest = 45 ∷ 45 ∷ rest
 

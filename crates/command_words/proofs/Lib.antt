@@ -2,8 +2,8 @@ pub mod Examples
 pub mod Held
 pub mod Lex
 pub mod Numbers
+pub mod Programs
 pub mod Reader
-pub mod Readers
 pub mod Refused
 pub mod Rows
 pub mod Saying

@@ -16,6 +16,7 @@ abbrev pub Fails : Kinds → Type 0
 Fails [] = ⊥
 Fails (k ∷ ks) = ⊤
 
+-- of two lists, of which the second counts where the first is empty
 pub fails_first : (a b : Kinds) → Fails a → Fails (or_else a b)
 fails_first [] b h = absurd h
 fails_first (k ∷ ks) b h = tt
@@ -44,6 +45,7 @@ pub record IsReader (s : Shape) (choice : Rule) (names : List Rule) : Type 0 whe
 
 -- ---- uses of an argument
 
+-- it takes one value, once
 pub takes_one : (rules : List Rule) (a : Rule) → IsValueRule rules a → takes_several a ≡ false
 takes_one rules a rule = rw (rule.range) refl
 
@@ -53,6 +55,7 @@ stays_one rules a rule = rw (rule.range, rule.action) refl
 pub takes_value : (rules : List Rule) (a : Rule) → IsValueRule rules a → takes_values a ≡ true
 takes_value rules a rule = rw (rule.range) refl
 
+-- a first use has no fault; a second one has, and one with no value
 pub use_fault-new : (rules : List Rule) (a : Rule) (v : Text) (rows : List Row) → IsValueRule rules a → row_at a.id rows ≡ None → use_fault false a (v ∷ []) rows ≡ []
 use_fault-new rules a v rows rule none = rw (rule.range, rule.action, has_row-none a.id rows none, rule.parser) refl
 

@@ -31,6 +31,7 @@ same id = (bytes_eq-Decides id id).1 refl
 
 -- ---- one more row
 
+-- the first of two rows is not the one that is sought
 none_of : (b : Bool) (r : Row) (o : Option Row) → cond b (Some r) o ≡ None → (b ≡ false) × (o ≡ None)
 none_of true r o e = absurd (true≢false (ap is_some e))
 none_of false r o e = (refl, e)
@@ -72,6 +73,7 @@ pub row_at-push-other : (id : Text) (r : Row) (rows : List Row) → bytes_eq r.i
 row_at-push-other id r [] e = rw e refl
 row_at-push-other id r (x ∷ xs) e = ap (λ o. cond (bytes_eq x.id id) (Some x) o) (row_at-push-other id r xs e)
 
+-- one more element of a list
 pub slice_get-push : {X : Type 0} (xs : List X) (x : X) → slice_get (xs ++ x ∷ []) (length xs) ≡ Some x
 slice_get-push [] x = refl
 slice_get-push (y ∷ ys) x = slice_get-push ys x

@@ -17,6 +17,7 @@ use Rattle.command_words.proofs.Reader.{Fails, fails_first, fails_later, IsReade
 use Rattle.command_words.proofs.Held.{Found, State}
 use Rattle.command_words.proofs.Walks.{AreTexts, Ended, Reads, end_of, reads}
 
+-- no argument has a default value
 abbrev pub NoDefaults : List Rule → Type 0
 NoDefaults [] = ⊤
 NoDefaults (a ∷ rest) = (a.defaults ≡ []) × NoDefaults rest
@@ -68,6 +69,7 @@ module _ (s : Shape) (choice : Rule) (names : List Rule) (r : IsReader s choice 
   abbrev pub start : Walk
   start = walk_from nothing_held
 
+  -- where the walk ends, and the rows that it leaves
   abbrev pub ending : List Text → Walk
   ending words = end_of s choice names r start words
 
@@ -81,6 +83,7 @@ module _ (s : Shape) (choice : Rule) (names : List Rule) (r : IsReader s choice 
     few : fitting least (length names) (said words) ≡ None → (ending words).stopped ≡ None → Fails (level_fault s [] nothing_held words false []) → Outcome words
     refused : fitting least (length names) (said words) ≡ None → ((has : Bool) (below : Kinds) → Fails (level_fault s [] nothing_held words has below)) → Outcome words
 
+  -- a fault of the walk is one of the parse
   fails_on_the_way : (words : List Text) → Reads s choice names r start words None → (has : Bool) (below : Kinds) → Fails (level_fault s [] nothing_held words has below)
   fails_on_the_way words h has below =
       let settling : settle_fault s.rules s.args_override_self (ending words).held ≡ settle_fault s.rules false (ending words).held =

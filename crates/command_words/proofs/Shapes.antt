@@ -7,6 +7,7 @@ use Rattle.command_words.specs.Words.{Text, Said}
 use Rattle.command_words.specs.Asked.{RunShape, CheckShape, named, seeded, run_shape, check_shape, run_shape_of, check_shape_of}
 use Rattle.command_words.specs.Reading.{fits, fitting, read_at, RunTells, CheckTells}
 
+-- the shape by what was found of the names, in order, and of the seed
 abbrev pub run_found : Option Text → Option Text → Option Text → Option Text → Option Text → Option RunShape
 run_found (Some first) (Some second) (Some third) (Some fourth) None =
     Some (record { executable = named first; config = second; cycles = third; order = fourth })
@@ -41,6 +42,7 @@ check_shape-found (a ∷ b ∷ []) [] few one = refl
 check_shape-found (a ∷ b ∷ []) (s ∷ more) few one = refl
 check_shape-found (a ∷ b ∷ c ∷ more) ss few one = absurd (omega arith)
 
+-- what fits is not too long
 room : (least most : ℕ) (s : Said) → fits least most s ≡ true → (length s.names ≤ most) × (length s.seeds ≤ 1)
 room least most s e =
     let outer = and_parts (nat_le least (length s.names)) _ e in

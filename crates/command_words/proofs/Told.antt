@@ -19,13 +19,14 @@ use Rattle.command_words.proofs.Reader.{Fails, IsReader}
 use Rattle.command_words.proofs.Held.{Found}
 use Rattle.command_words.proofs.Walks.{AreTexts}
 use Rattle.command_words.proofs.Settled.{NoDefaults, missing_fault, Outcome, fit, few, refused, ending, outcome}
-use Rattle.command_words.proofs.Readers.{choice, required_name, last_name, check_shape, check_names, check_reader, check_plain, check_checks, run_shape, run_names, run_reader, run_plain, run_checks}
+use Rattle.command_words.proofs.Programs.{choice, required_name, last_name, check_shape, check_names, check_reader, check_plain, check_checks, run_shape, run_names, run_reader, run_plain, run_checks}
 
 -- the words are text
 pub are_texts : {Z : Type 0} (words : List (String Z)) → AreTexts (map string_bytes words)
 are_texts [] = tt
 are_texts (word ∷ rest) = (IsUtf8-string_bytes word, are_texts rest)
 
+-- an empty list is no fault
 no_failure : (k : Kinds) → k ≡ [] → Fails k → ⊥
 no_failure k e h = subst Fails e h
 

@@ -18,6 +18,7 @@ use Rattle.command_words.proofs.Held.{held_at, standing, Found, State, push_seed
 use Rattle.command_words.proofs.Turns.{IsPlain, plain_trailing, plain_name, name_turn, name_walked, stray_turn, dashes_turn, dashes_walked, bare_turn, bare_walked, valued_turn, valued_walked, valued_again, value_turn, value_walked}
 use Rattle.command_words.proofs.Refused.{other_turn, short_turn, lost_turn, bare_lost, valued_lost}
 
+-- each word is text
 abbrev pub AreTexts : List Text → Type 0
 AreTexts words = AllByRecursion IsUtf8 words
 
@@ -29,11 +30,13 @@ module _ (s : Shape) (choice : Rule) (names : List Rule) (r : IsReader s choice 
   abbrev pub run_fault : Walk → List Text → Kinds
   run_fault w words = or_else (walk_fault s [] w words) (settle_fault s.rules false (end_of w words).held)
 
+  -- the walk ends with no fault, and holds these names and seeds
   pub record Ended (w : Walk) (words : List Text) (ns ss : List Text) : Type 0 where
     pub fault : run_fault w words ≡ []
     pub found : Found s choice names r (settled_rows s.rules (end_of w words).held.pending (end_of w words).held.rows) ns ss
     pub stopped : (end_of w words).stopped ≡ None
 
+  -- it does so, or has a fault
   abbrev pub Reads : Walk → List Text → Option (List Text × List Text) → Type 0
   Reads w words None = Fails (run_fault w words)
   Reads w words (Some p) = Ended w words p.0 p.1
@@ -71,6 +74,7 @@ module _ (s : Shape) (choice : Rule) (names : List Rule) (r : IsReader s choice 
   abbrev Bad : List Row → Option (Text × List Text) → Type 0
   Bad rows p = Fails (settle_fault s.rules false (held_at rows p))
 
+  -- every word is a name
   lost_trailing : (waiting : Waiting) (rows : List Row) (p : Option (Text × List Text)) (k : ℕ) (rest : List Text) → k ≤ length names → Bad rows p
       → Reads (standing true waiting (suc k) rows p) rest None
   lost_trailing waiting rows p k [] few bad = lost_at_end _ bad
@@ -106,6 +110,7 @@ module _ (s : Shape) (choice : Rule) (names : List Rule) (r : IsReader s choice 
   abbrev most : ℕ
   most = length names
 
+  -- there are no more words
   nothing_more : (trailing : Bool) (rows : List Row) (p : Option (Text × List Text)) (ns ss : List Text) → State s choice names r rows p ns ss
       → Reads (At trailing rows p ns) [] (total most ns ss (only_names []))
   unfolding walk_fault

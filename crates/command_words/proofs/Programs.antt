@@ -13,6 +13,7 @@ use Rattle.command_words.proofs.Reader.{IsReader}
 use Rattle.command_words.proofs.Held.{Found}
 use Rattle.command_words.proofs.Settled.{NoDefaults, missing_fault, given}
 
+-- the arguments, as they are built
 abbrev pub choice : Rule
 choice = filled generate_rule
 
@@ -33,6 +34,7 @@ check_shape = (built check_app).top
 abbrev pub check_names : List Rule
 check_names = required_name 1 (codes "first") ∷ last_name 2 (codes "second") ∷ []
 
+-- each name is an argument of one value, in its place
 check_rule : (k : ℕ) (a : Rule) → slice_get check_names k ≡ Some a → IsValueRule check_shape.rules a
 check_rule zero a e = subst (IsValueRule check_shape.rules) (some_is e) (record { by_id = refl; action = refl; range = refl; parser = refl; trailing = refl })
 check_rule (suc zero) a e = subst (IsValueRule check_shape.rules) (some_is e) (record { by_id = refl; action = refl; range = refl; parser = refl; trailing = refl })
@@ -66,6 +68,7 @@ check_reader = record {
 pub check_plain : NoDefaults check_shape.rules
 check_plain = (refl, (refl, (refl, tt)))
 
+-- one name is required
 pub check_checks : (rows : List Row) (ns ss : List Text) → Found check_shape choice check_names check_reader rows ns ss → check_fault check_shape rows false ≡ missing_fault 1 ns
 check_checks rows ns ss f = rw (given (required_name 1 (codes "first")) rows (slice_get ns 0) (f.name 0 (required_name 1 (codes "first")) refl)) (by ns)
   where
@@ -81,6 +84,7 @@ run_shape = (built run_app).top
 abbrev pub run_names : List Rule
 run_names = required_name 1 (codes "first") ∷ required_name 2 (codes "second") ∷ required_name 3 (codes "third") ∷ last_name 4 (codes "fourth") ∷ []
 
+-- each name is an argument of one value, in its place
 run_rule : (k : ℕ) (a : Rule) → slice_get run_names k ≡ Some a → IsValueRule run_shape.rules a
 run_rule zero a e = subst (IsValueRule run_shape.rules) (some_is e) (record { by_id = refl; action = refl; range = refl; parser = refl; trailing = refl })
 run_rule (suc zero) a e = subst (IsValueRule run_shape.rules) (some_is e) (record { by_id = refl; action = refl; range = refl; parser = refl; trailing = refl })
@@ -123,6 +127,7 @@ run_plain = (refl, (refl, (refl, (refl, (refl, tt)))))
 abbrev is_there : List Text → ℕ → Bool
 is_there ns k = is_some (slice_get ns k)
 
+-- three names are required
 pub run_checks : (rows : List Row) (ns ss : List Text) → Found run_shape choice run_names run_reader rows ns ss → check_fault run_shape rows false ≡ missing_fault 3 ns
 run_checks rows ns ss f =
     let first = given (required_name 1 (codes "first")) rows (slice_get ns 0) (f.name 0 (required_name 1 (codes "first")) refl) in
