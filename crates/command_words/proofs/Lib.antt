@@ -1,0 +1,14 @@
+pub mod Examples
+pub mod Held
+pub mod Lex
+pub mod Numbers
+pub mod Programs
+pub mod Reader
+pub mod Refused
+pub mod Rows
+pub mod Saying
+pub mod Settled
+pub mod Shapes
+pub mod Told
+pub mod Turns
+pub mod Walks
