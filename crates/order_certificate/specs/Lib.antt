@@ -1,3 +1,5 @@
+pub mod Certificate
 pub mod Extended
 pub mod Hex
 pub mod OrderText
+pub mod Reading

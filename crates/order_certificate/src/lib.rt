@@ -1,9 +1,15 @@
-//! The text of an order: written access by access.
+//! The text of an order: written access by access, and read.
 #![tactic(auto)]
 
+mod certificate;
+mod fault;
+mod reading;
 mod text;
 mod writing;
 
+pub use certificate::Certificate;
+pub use fault::TextFault;
+pub use reading::read;
 pub use writing::{begin, entry, finish};
 
 #[cfg(test)]
