@@ -13,7 +13,7 @@ use Rattle.order_certificate.specs.Hex.{hex}
 use Rattle.order_certificate.specs.OrderText.{value_text}
 
 -- so many last digits of n, followed by acc
-abbrev last_onto : ℕ → ℕ → List ℕ → List ℕ
+abbrev pub last_onto : ℕ → ℕ → List ℕ → List ℕ
 last_onto zero n acc = acc
 last_onto (suc width) n acc = last_onto width (n / 16) (digit_glyph false (n % 16) ∷ acc)
 
@@ -51,7 +51,7 @@ padded-last (suc k) width n acc fits room = by_test (padded-last k) width fits r
         let same : suc (suc w) + length acc ≡ suc w + length (g ∷ acc) = omega arith in
         rw same (fewer w (n / 16) (g ∷ acc) (omega (arith, pow-succ' 16 (suc w))) (omega arith))
 
-hex-last : (width n : ℕ) → n < 16 ^ suc width → width < 64 → hex (suc width) n ≡ last_onto (suc width) n []
+pub hex-last : (width n : ℕ) → n < 16 ^ suc width → width < 64 → hex (suc width) n ≡ last_onto (suc width) n []
 hex-last width n fits room =
     let same : suc width + 0 ≡ suc width = omega arith in
     rw (sym (digits_onto-nil 16 false n)) (rw same at (padded-last 64 width n [] fits room))

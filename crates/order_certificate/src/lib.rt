@@ -3,6 +3,8 @@
 
 mod certificate;
 mod fault;
+mod fields;
+mod lines;
 mod reading;
 mod text;
 mod writing;
