@@ -10,7 +10,7 @@ use Rattle.std.proofs.lemmas.Str.Parse.{IsNumeralModel, numerals_by_value, tells
 use Rattle.order_certificate.specs.Fields.{digit_at, with_digit, with_digits, digits_at, decimal_at}
 use Rattle.order_certificate.proofs.Words.{bind_some, bind_is, if_some, some_parts}
 
-numerals : IsNumeralModel (AllDigits 10) (digits_value 10)
+pub numerals : IsNumeralModel (AllDigits 10) (digits_value 10)
 numerals = numerals_by_value _ tells_digits
 
 -- ---- one digit

@@ -1,7 +1,14 @@
+pub mod Accesses
+pub mod Bodies
 pub mod Counts
+pub mod Cuts
 pub mod Decimals
 pub mod Extending
+pub mod Feedless
+pub mod Headings
 pub mod Hex
 pub mod HexDigits
+pub mod LineReads
+pub mod Orders
 pub mod Parts
 pub mod Words

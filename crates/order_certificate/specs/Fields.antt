@@ -1,5 +1,6 @@
 -- Reading a text from its front. Each function gives what it has read and what is left, where its field stands there.
-use Rattle.std.specs.Prelude.{ℕ, zero, suc, ◌+◌, ◌-◌, ◌*◌, ◌==◌, nat_lt, nat_le, Bool, ◌&&◌, if◌then◌else◌, List, [], ◌∷◌, ◌++◌, codes, length, take, drop, Option, Some, None, option_and_then, option_map}
+use Rattle.std.specs.Prelude.{◌≡◌, ◌≤◌, IsSome, ℕ, zero, suc, ◌+◌, ◌-◌, ◌*◌, ◌==◌, nat_lt, nat_le, Bool, ◌&&◌, if◌then◌else◌, List, [], ◌∷◌, ◌++◌, codes, length, take, drop, Option, Some, None, option_and_then, option_map}
+use Rattle.std.specs.List.{All, flat_map, list_any}
 use Rattle.std.specs.Option.{option_or}
 use Rattle.rsim_base.specs.Accesses.{loads, stores}
 use Rattle.rsim_base.specs.Bytes.{count_of}
@@ -10,7 +11,10 @@ use Rattle.rsim_base.specs.declared.memory.Model.{Model}
 use Rattle.rsim_base.specs.declared.memory.Model.TheVariants.{Sc, Pc, Rc}
 use Rattle.rsim_base.specs.declared.memory.Size.{Size}
 use Rattle.rsim_base.specs.declared.memory.Size.TheVariants.{B1, B2, B4, B8}
-use Rattle.order_certificate.specs.Certificate.{max_processors, max_steps}
+use Rattle.order_certificate.specs.declared.fault.TextFault.{TextFault}
+use Rattle.order_certificate.specs.declared.fault.TextFault.TheVariants.{BadLine, Truncated}
+use Rattle.order_certificate.specs.Certificate.{max_processors, max_steps, IsInText}
+use Rattle.order_certificate.specs.OrderText.{line}
 
 infixl 10 ◌>>=◌
 abbrev pub ◌>>=◌ : {A B : Type 0} → Option A → (A → Option B) → Option B
@@ -92,9 +96,6 @@ size_of b = if b == 49 then Some B1 else if b == 50 then Some B2 else if b == 52
 
 -- ---- lines
 
-unfoldable pub version_at : List ℕ → Option (Unit {0} × List ℕ)
-version_at text = after (codes "rsim order 1\n") text >>= λ rest. Some (tt, rest)
-
 abbrev pub model_in : List ℕ → Option (Model × List ℕ)
 model_in text =
     option_or (option_map (λ rest. (Sc, rest)) (after (codes "sc\n") text))
@@ -128,3 +129,23 @@ counts_from (suc n) counts text = count_at text >>= λ x. counts_from n (counts 
 
 unfoldable pub ending_at : ℕ → List ℕ → Option (List ℕ × List ℕ)
 ending_at n text = after (codes "end") text >>= λ rest. counts_from n [] rest
+
+-- ---- faults
+
+-- of a text that begins with no good line, the first of it line k
+abbrev pub fault_at : ℕ → List ℕ → TextFault
+fault_at k text = if list_any (λ b. b == 10) text then BadLine k else Truncated
+
+-- a text begins with the lines of these accesses
+pub record HasLines (text : List ℕ) (lines : List Access) (rest : List ℕ) : Type 0 where
+  pub is : text ≡ flat_map line lines ++ rest
+  pub in_text : All IsInText lines
+  pub few : length lines ≤ max_steps
+
+-- a text begins with the lines of as many accesses as there may be, and then with one more
+pub record IsOverfull (text : List ℕ) : Type 0 where
+  pub lines : List Access
+  pub rest : List ℕ
+  pub has : HasLines text lines rest
+  pub full : max_steps ≤ length lines
+  pub next : IsSome (access_at rest)
