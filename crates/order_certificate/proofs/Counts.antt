@@ -110,7 +110,7 @@ counts_again (count ∷ counts) before rest few =
 -- ---- the end line
 
 -- the line without its line feed
-pub ending_body : List ℕ → List ℕ
+unfoldable pub ending_body : List ℕ → List ℕ
 ending_body counts = codes "end" ++ flat_map counted counts
 
 pub ending_is : (counts : List ℕ) → ending counts ≡ ending_body counts ++ 10 ∷ []

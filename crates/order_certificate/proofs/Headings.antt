@@ -6,7 +6,7 @@ use Rattle.rsim_base.specs.declared.memory.Model.{Model}
 use Rattle.rsim_base.specs.declared.memory.Model.TheVariants.{Sc, Pc, Rc}
 use Rattle.order_certificate.specs.Certificate.{max_processors}
 use Rattle.order_certificate.specs.Fields.{◌>>=◌, after, digit_at, decimal_then, model_in, model_at, processors_at}
-use Rattle.order_certificate.specs.OrderText.{model_name}
+use Rattle.order_certificate.specs.OrderText.{model_name, heading}
 use Rattle.order_certificate.specs.Reading.{IsVersion, IsModel, IsProcessors}
 use Rattle.order_certificate.proofs.Accesses.{decimal_then_takes, decimal_then_again}
 use Rattle.order_certificate.proofs.Feedless.{IsFeedless, feedless_none, feedless_byte, feedless_both, feedless_decimal, feedless_by_test}
@@ -148,3 +148,9 @@ processors_written = record {
   takes = processors_takes;
   again = processors_again;
 }
+
+-- ---- the heading
+
+pub heading_lines : (m : Model) (n : ℕ) (rest : List ℕ) → heading m n ++ rest ≡ codes "rsim order 1\n" ++ (model_body m ++ 10 ∷ (processors_body n ++ 10 ∷ rest))
+unfolding heading model_body processors_body
+heading_lines m n rest = simp append_assoc

@@ -5,10 +5,14 @@ pub mod Cuts
 pub mod Decimals
 pub mod Extending
 pub mod Feedless
+pub mod Founds
+pub mod Fronts
 pub mod Headings
 pub mod Hex
 pub mod HexDigits
 pub mod LineReads
+pub mod Once
 pub mod Orders
 pub mod Parts
+pub mod Wholes
 pub mod Words

@@ -9,13 +9,14 @@ use Rattle.rsim_base.specs.declared.memory.Model.{Model}
 use Rattle.order_certificate.specs.declared.fault.TextFault.{TextFault}
 use Rattle.order_certificate.specs.declared.fault.TextFault.TheVariants.{BadLine, Truncated, TooMany, Memory}
 use Rattle.order_certificate.specs.Certificate.{CertificateView, IsInText, max_steps}
-use Rattle.order_certificate.specs.Fields.{after, model_at, processors_at, access_at, ending_at, fault_at, HasLines, IsOverfull}
-use Rattle.order_certificate.specs.OrderText.{line}
+use Rattle.order_certificate.specs.Fields.{after, model_at, processors_at, access_at, ending_at, fault_at, HasHeading, HasLines, IsOverfull}
+use Rattle.order_certificate.specs.OrderText.{line, heading}
 use Rattle.order_certificate.specs.Reading.{pieces, is_all, ended, IsVersion, IsModel, IsProcessors, IsAccess, IsBody, IsHeading, order_of, IsOrder, IsRead, Reads}
 use Rattle.order_certificate.proofs.Accesses.{access_body, line_is, access_written}
 use Rattle.order_certificate.proofs.Bodies.{heading_taken, heading_none, body_full, body_end, body_none, body_entries}
 use Rattle.order_certificate.proofs.Cuts.{not_all_read}
-use Rattle.order_certificate.proofs.Headings.{version_at, version_at-after, version_written, model_written, processors_written}
+use Rattle.order_certificate.proofs.Headings.{version_at, version_at-after, version_written, model_body, model_written, processors_body, processors_written, heading_lines}
+use Rattle.order_certificate.proofs.Words.{after_takes}
 
 -- ---- results
 
@@ -35,7 +36,7 @@ reads_map P Q (Err Memory) f p = tt
 
 -- ---- the lines of the accesses
 
-lines_printed : (lines : List Access) → flat_map line lines ≡ flat_map (λ e. access_body e ++ 10 ∷ []) lines
+pub lines_printed : (lines : List Access) → flat_map line lines ≡ flat_map (λ e. access_body e ++ 10 ∷ []) lines
 lines_printed [] = refl
 lines_printed (e ∷ lines) = λ i. line_is e i ++ lines_printed lines i
 
@@ -120,13 +121,13 @@ module _ {C : Type 0} (counts : List ℕ) (order : C) (k : ℕ) (left : List ℕ
 
 -- ---- the heading
 
-abbrev behind_processors : Model → Result CertificateView TextFault → ℕ → List (List ℕ) → Type 0
+abbrev pub behind_processors : Model → Result CertificateView TextFault → ℕ → List (List ℕ) → Type 0
 behind_processors m r n left = IsOrder m n left r
 
-abbrev behind_model : Result CertificateView TextFault → Model → List (List ℕ) → Type 0
+abbrev pub behind_model : Result CertificateView TextFault → Model → List (List ℕ) → Type 0
 behind_model r m left = IsHeading IsProcessors 3 (behind_processors m r) left r
 
-abbrev behind_version : Result CertificateView TextFault → Unit {0} → List (List ℕ) → Type 0
+abbrev pub behind_version : Result CertificateView TextFault → Unit {0} → List (List ℕ) → Type 0
 behind_version r a left = IsHeading IsModel 2 (behind_model r) left r
 
 module _ (text : List ℕ) where
@@ -141,11 +142,27 @@ module _ (text : List ℕ) where
     no_model none = at_model (Err (fault_at 2 text₂)) (heading_none model_written CertificateView 2 (behind_model (Err (fault_at 2 text₂))) text₂ none)
 
     module _ (m : Model) (text₃ : List ℕ) (found₂ : model_at text₂ ≡ Some (m, text₃)) where
-      at_processors : (r : Result CertificateView TextFault) → behind_model r m (pieces text₃) → IsRead text r
-      at_processors r more = at_model r (heading_taken model_written 2 (behind_model r) text₂ m text₃ r found₂ more)
-
       pub no_processors : processors_at text₃ ≡ None → IsRead text (Err (fault_at 3 text₃))
-      no_processors none = at_processors (Err (fault_at 3 text₃)) (heading_none processors_written CertificateView 3 (behind_processors m (Err (fault_at 3 text₃))) text₃ none)
+      no_processors none =
+          at_model (Err (fault_at 3 text₃)) (heading_taken model_written 2 (behind_model (Err (fault_at 3 text₃))) text₂ m text₃ (Err (fault_at 3 text₃)) found₂
+          (heading_none processors_written CertificateView 3 (behind_processors m (Err (fault_at 3 text₃))) text₃ none))
 
-      pub at_order : (n : ℕ) (rest : List ℕ) (r : Result CertificateView TextFault) → processors_at text₃ ≡ Some (n, rest) → IsOrder m n (pieces rest) r → IsRead text r
-      at_order n rest r found₃ more = at_processors r (heading_taken processors_written 3 (behind_processors m r) text₃ n rest r found₃ more)
+      pub has_heading : (n : ℕ) (rest : List ℕ) → processors_at text₃ ≡ Some (n, rest) → HasHeading text m n rest
+      has_heading n rest found₃ =
+          let processors = processors_written.takes text₃ n rest found₃ in
+          record {
+            is = after_takes (codes "rsim order 1\n") text text₂ found
+              ∙ ap (λ t. codes "rsim order 1\n" ++ t) ((model_written.takes text₂ m text₃ found₂).0 ∙ ap (λ t. model_body m ++ 10 ∷ t) processors.0) ∙ sym (heading_lines m n rest);
+            some = processors.1.0;
+            most = processors.1.1;
+          }
+
+-- what is read behind the heading is what the text is read as
+pub read_behind : (text : List ℕ) (m : Model) (n : ℕ) (rest : List ℕ) (r : Result CertificateView TextFault) → HasHeading text m n rest → IsOrder m n (pieces rest) r → IsRead text r
+read_behind text m n rest r has more =
+    let text₃ : List ℕ = processors_body n ++ 10 ∷ rest in
+    let text₂ : List ℕ = model_body m ++ 10 ∷ text₃ in
+    subst (λ t. IsRead t r) (sym (has.is ∙ heading_lines m n rest))
+    (heading_taken version_written 1 (behind_version r) (codes "rsim order 1\n" ++ text₂) tt text₂ r (version_written.again tt text₂ tt)
+      (heading_taken model_written 2 (behind_model r) text₂ m text₃ r (model_written.again m text₃ tt)
+        (heading_taken processors_written 3 (behind_processors m r) text₃ n rest r (processors_written.again n rest (has.some, has.most)) more)))

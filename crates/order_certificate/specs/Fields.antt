@@ -14,7 +14,7 @@ use Rattle.rsim_base.specs.declared.memory.Size.TheVariants.{B1, B2, B4, B8}
 use Rattle.order_certificate.specs.declared.fault.TextFault.{TextFault}
 use Rattle.order_certificate.specs.declared.fault.TextFault.TheVariants.{BadLine, Truncated}
 use Rattle.order_certificate.specs.Certificate.{max_processors, max_steps, IsInText}
-use Rattle.order_certificate.specs.OrderText.{line}
+use Rattle.order_certificate.specs.OrderText.{heading, line}
 
 infixl 10 ◌>>=◌
 abbrev pub ◌>>=◌ : {A B : Type 0} → Option A → (A → Option B) → Option B
@@ -135,6 +135,12 @@ ending_at n text = after (codes "end") text >>= λ rest. counts_from n [] rest
 -- of a text that begins with no good line, the first of it line k
 abbrev pub fault_at : ℕ → List ℕ → TextFault
 fault_at k text = if list_any (λ b. b == 10) text then BadLine k else Truncated
+
+-- a text begins with the heading of so many processors
+pub record HasHeading (text : List ℕ) (m : Model) (n : ℕ) (rest : List ℕ) : Type 0 where
+  pub is : text ≡ heading m n ++ rest
+  pub some : 1 ≤ n
+  pub most : n ≤ max_processors
 
 -- a text begins with the lines of these accesses
 pub record HasLines (text : List ℕ) (lines : List Access) (rest : List ℕ) : Type 0 where

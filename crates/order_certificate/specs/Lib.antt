@@ -2,5 +2,6 @@ pub mod Certificate
 pub mod Extended
 pub mod Fields
 pub mod Hex
+pub mod Laws
 pub mod OrderText
 pub mod Reading

@@ -4,6 +4,7 @@
 mod certificate;
 mod fault;
 mod fields;
+mod laws;
 mod lines;
 mod reading;
 mod text;
@@ -11,6 +12,7 @@ mod writing;
 
 pub use certificate::Certificate;
 pub use fault::TextFault;
+pub use laws::texts_are_read_once;
 pub use reading::read;
 pub use writing::{begin, entry, finish};
 

@@ -1,9 +1,7 @@
 // From an order's text to the order.
-ghost use Rattle.std.specs.Prelude.{◌≡◌, ◌<◌, ◌≤◌, ◌⊎◌, ◌++◌, ◌∷◌, [], length, take, if◌then◌else◌, sum, IfOk, IfErr, OnOk, None};
-ghost use Rattle.std.specs.List.{list_any};
-ghost use Rattle.rsim_base.specs.declared.memory.Access.{Access};
+ghost use Rattle.std.specs.Prelude.{◌≡◌, ℕ, ◌<◌, ◌≤◌, ◌⊎◌, ◌++◌, ◌∷◌, [], length, take, sum, IfOk, IfErr, OnOk, None};
 ghost use Rattle.order_certificate.specs.Certificate.{max_steps, IsCertificate, text_of, CertificateView};
-ghost use Rattle.order_certificate.specs.Fields.{access_at, fault_at, HasLines, IsOverfull};
+ghost use Rattle.order_certificate.specs.Fields.{access_at, fault_at, HasHeading, HasLines, IsOverfull};
 ghost use Rattle.order_certificate.specs.Reading.{pieces, IsRead, IsOrder, Reads};
 
 use crate::certificate::Certificate;
@@ -23,7 +21,20 @@ const FIRST_ACCESS: u32 = 4;
 /// behind the end line; `Truncated` where no line feed is left before the end line is read; `TooMany` at an access
 /// past 8,000,000 of them, and at an end line whose counts add to more. Where memory is short, `Memory`.
 pub fn read(alloc: Global, text: &[u8]) -> Result<Certificate, TextFault>
+    ensures found { IfOk result (λ c. IsCertificate c × (text.now ≡ text_of c)) }
+    ensures only { (c : CertificateView) → IsCertificate c → text.now ≡ text_of c → Reads (λ r. r ≡ Ok c) result }
+    ensures cut { (c : CertificateView) (k : ℕ) → IsCertificate c → k < length (text_of c) → text.now ≡ take k (text_of c)
+        → Reads (λ r. r ≡ Err TextFault.Truncated) result }
     ensures exact { Reads (IsRead text.now) result }
+{
+    let (model, processors, rest) = read_heading(text)?;
+    read_order(alloc, model, processors, rest)
+}
+
+// The model and the number of processors, and the text behind the heading.
+fn read_heading(text: &[u8]) -> Result<(Model, u8, &[u8]), TextFault>
+    ensures heading { IfOk result (λ x. HasHeading text.now x.0 x.1 x.2.now) }
+    ensures fault { IfErr result (λ f. IsRead text.now (Err f)) }
 {
     let Some(behind_version) = after(text, b"rsim order 1\n") else {
         return Err(fault_at(text, 1));
@@ -34,7 +45,7 @@ pub fn read(alloc: Global, text: &[u8]) -> Result<Certificate, TextFault>
     let Some((processors, rest)) = processors_at(behind_model) else {
         return Err(fault_at(behind_model, 3));
     };
-    read_order(alloc, model, processors, rest)
+    Ok((model, processors, rest))
 }
 
 // What stands behind the heading.
