@@ -1,7 +1,6 @@
 -- The line of an access, read from the front of a text and printed.
-use Rattle.std.proofs.Common.{◌≡◌, ℕ, suc, ◌+◌, ◌*◌, ◌%◌, ◌^◌, ◌<◌, ◌≤◌, Bool, true, false, nat_eq, if◌then◌else◌, List, [], ◌∷◌, ◌++◌, codes, decimal, Option, Some, None, refl, sym, ap, ◌∙◌, subst, arith, append_assoc}
+use Rattle.std.proofs.Common.{◌≡◌, ℕ, ◌*◌, ◌^◌, ◌<◌, ◌≤◌, Bool, true, false, nat_eq, if◌then◌else◌, List, [], ◌∷◌, ◌++◌, codes, decimal, Option, Some, None, refl, sym, ap, ◌∙◌, subst, arith, append_assoc}
 use Rattle.std.specs.Fmt.{digits}
-use Rattle.std.specs.List.{concat}
 use Rattle.std.proofs.Math.Nat.{mod-eq_of_lt}
 use Rattle.std.proofs.lemmas.Bool.Decides.{nat_tests}
 use Rattle.std.proofs.lemmas.List.{append_cancel_right}
@@ -15,7 +14,7 @@ use Rattle.rsim_base.specs.declared.memory.Size.TheVariants.{B1, B2, B4, B8}
 use Rattle.order_certificate.specs.Certificate.{max_steps, IsInText}
 use Rattle.order_certificate.specs.Fields.{after, digit_at, decimal_at, decimal_then, hex_then, value_then, letter_then, kind_of, size_of, access_at}
 use Rattle.order_certificate.specs.Hex.{hex}
-use Rattle.order_certificate.specs.OrderText.{kind_letter, value_text, value_or_dash, line, IsPrintable}
+use Rattle.order_certificate.specs.OrderText.{kind_letter, value_text, value_or_dash, line}
 use Rattle.order_certificate.specs.Reading.{IsAccess}
 use Rattle.order_certificate.proofs.Decimals.{IsDecimal, decimal_takes, decimal_again}
 use Rattle.order_certificate.proofs.Feedless.{IsFeedless, feedless_none, feedless_byte, feedless_both, feedless_decimal, feedless_hex}
@@ -196,10 +195,10 @@ access_takes text e rest found =
     let is_stored = value_takes (stores kind.value.0) size.value.0 10 loaded.value.1 stored.value.0 stored.value.1 stored.is in
     let taken : Taken text made stored.value.1 = record {
       is =
-        is_node.is ∙ ap (λ t. decimal node.value.0 ++ 32 ∷ t) (is_index.is ∙ ap (λ t. decimal index.value.0 ++ 32 ∷ t) (is_kind ∙ ap (λ t. kind_letter kind.value.0 ++ 32 ∷ t) (is_size
-        ∙ ap (λ t. decimal (count_of size.value.0) ++ 32 ∷ t) (is_addr.is ∙ ap (λ t. hex 16 addr.value.0 ++ 32 ∷ t) (is_loaded.is
-        ∙ ap (λ t. value_or_dash (loads kind.value.0) size.value.0 loaded.value.0 ++ 32 ∷ t) is_stored.is)))))
-        ∙ sym (body_on made stored.value.1);
+          is_node.is ∙ ap (λ t. decimal node.value.0 ++ 32 ∷ t) (is_index.is ∙ ap (λ t. decimal index.value.0 ++ 32 ∷ t) (is_kind ∙ ap (λ t. kind_letter kind.value.0 ++ 32 ∷ t) (is_size
+          ∙ ap (λ t. decimal (count_of size.value.0) ++ 32 ∷ t) (is_addr.is ∙ ap (λ t. hex 16 addr.value.0 ++ 32 ∷ t) (is_loaded.is
+          ∙ ap (λ t. value_or_dash (loads kind.value.0) size.value.0 loaded.value.0 ++ 32 ∷ t) is_stored.is)))))
+          ∙ sym (body_on made stored.value.1);
       in_text = record {
         node = is_node.small;
         index = is_index.small;

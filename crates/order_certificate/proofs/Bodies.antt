@@ -1,14 +1,13 @@
 -- What a text is read as, from what its front is read as. Entries are of any kind that has the laws of a kind of line.
-use Rattle.std.proofs.Common.{◌≡◌, ℕ, zero, suc, ◌+◌, ◌<◌, ◌≤◌, Bool, true, false, nat_lt, if◌then◌else◌, ◌⊎◌, inl, inr, List, [], ◌∷◌, ◌++◌, length, sum, codes, Option, Some, None, Result, Ok, Err, refl, sym, ap, ◌∙◌, subst, arith, append_assoc, append-nil, length-append}
+use Rattle.std.proofs.Common.{◌≡◌, ℕ, suc, ◌+◌, ◌<◌, ◌≤◌, if◌then◌else◌, ◌⊎◌, inl, inr, List, [], ◌∷◌, ◌++◌, length, Option, Some, None, Result, Err, refl, sym, ap, ◌∙◌, subst, arith, append_assoc, append-nil, length-append}
 use Rattle.std.specs.List.{AllByRecursion, flat_map}
 use Rattle.order_certificate.specs.declared.fault.TextFault.{TextFault}
-use Rattle.order_certificate.specs.declared.fault.TextFault.TheVariants.{BadLine, Truncated, TooMany, Memory}
+use Rattle.order_certificate.specs.declared.fault.TextFault.TheVariants.{BadLine, Truncated, TooMany}
 use Rattle.order_certificate.specs.Certificate.{max_steps}
 use Rattle.order_certificate.specs.Fields.{ending_at, fault_at}
-use Rattle.order_certificate.specs.OrderText.{ending}
-use Rattle.order_certificate.specs.Reading.{pieces, AreCounts, IsEnding, ended, IsBody, IsHeading}
-use Rattle.order_certificate.proofs.Counts.{ending_body, ending_is, ending_written}
-use Rattle.order_certificate.proofs.Cuts.{IsLast, IsCut, cut, pieces_last, pieces_line, HasPiece, pieces_some}
+use Rattle.order_certificate.specs.Reading.{pieces, ended, IsBody, IsHeading}
+use Rattle.order_certificate.proofs.Counts.{ending_body, ending_written}
+use Rattle.order_certificate.proofs.Cuts.{IsLast, IsCut, cut, pieces_last, pieces_line, pieces_some}
 use Rattle.order_certificate.proofs.LineReads.{IsWritten, written_piece}
 
 -- ---- a line of the heading
@@ -74,10 +73,11 @@ module _ {A C : Type 0} {IsEntry : List ℕ → A → Type 0} {P : A → Type 0}
           let found = pieces_some line.rest in
           let whole : pieces text ≡ line.piece ∷ found.first ∷ found.others = ap pieces line.is ∙ pieces_line line.piece line.rest line.free ∙ ap (λ ps. line.piece ∷ ps) found.is in
           subst (λ ps. IsBody IsEntry order n entries k ps (Err (fault_at k text))) (sym whole)
-          (inr (inr (inr
-            ( λ a is. absurd (let e : Some (a, line.rest) ≡ None = sym (written_piece w line.piece a line.rest is) ∙ ap at (sym line.is) ∙ no_entry in let no : ⊥ = cc in no)
-            , λ counts is. absurd (let e : Some (counts, line.rest) ≡ None = sym (written_piece (ending_written n) line.piece counts line.rest is) ∙ ap (ending_at n) (sym line.is) ∙ no_end in let no : ⊥ = cc in no)
-            , ap (λ t. Err (if t then BadLine k else Truncated)) line.some))))
+          (inr (inr (inr (
+            λ a is. absurd (let e : Some (a, line.rest) ≡ None = sym (written_piece w line.piece a line.rest is) ∙ ap at (sym line.is) ∙ no_entry in let no : ⊥ = cc in no),
+            λ counts is. absurd (let e : Some (counts, line.rest) ≡ None = sym (written_piece (ending_written n) line.piece counts line.rest is) ∙ ap (ending_at n) (sym line.is) ∙ no_end in let no : ⊥ = cc in no),
+            ap (λ t. Err (if t then BadLine k else Truncated)) line.some,
+          ))))
 
   -- the line of an entry
   abbrev pub printed : A → List ℕ
@@ -97,5 +97,5 @@ module _ {A C : Type 0} {IsEntry : List ℕ → A → Type 0} {P : A → Type 0}
       let room : length entries < max_steps = omega (arith, few, length-append entries (e ∷ es)) in
       subst (λ t. IsBody IsEntry order n entries k (pieces t) r) (sym text_is)
       (body_entry entries k (body e ++ 10 ∷ left) e left r found room
-        (body_entries es (entries ++ e ∷ []) (k + 1) rest r all.1 (subst (λ xs. length xs ≤ max_steps) (sym moved) few)
-          (subst (λ j. IsBody IsEntry order n ((entries ++ e ∷ []) ++ es) j (pieces rest) r) (sym later) (subst (λ xs. IsBody IsEntry order n xs (k + suc (length es)) (pieces rest) r) (sym moved) more))))
+      (body_entries es (entries ++ e ∷ []) (k + 1) rest r all.1 (subst (λ xs. length xs ≤ max_steps) (sym moved) few)
+      (subst (λ j. IsBody IsEntry order n ((entries ++ e ∷ []) ++ es) j (pieces rest) r) (sym later) (subst (λ xs. IsBody IsEntry order n xs (k + suc (length es)) (pieces rest) r) (sym moved) more))))

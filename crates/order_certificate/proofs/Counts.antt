@@ -1,12 +1,12 @@
 -- The counts of an end line, read one by one.
-use Rattle.std.proofs.Common.{◌≡◌, ℕ, zero, suc, ◌+◌, ◌-◌, ◌^◌, ◌<◌, ◌≤◌, List, [], ◌∷◌, ◌++◌, length, codes, decimal, Option, Some, None, refl, sym, ap, ◌∙◌, subst, arith, append_assoc, append-nil}
-use Rattle.std.specs.List.{concat, flat_map}
+use Rattle.std.proofs.Common.{◌≡◌, ℕ, zero, suc, ◌+◌, ◌-◌, ◌<◌, ◌≤◌, List, [], ◌∷◌, ◌++◌, length, codes, decimal, Some, None, refl, sym, ap, ◌∙◌, subst, arith, append_assoc, append-nil}
+use Rattle.std.specs.List.{flat_map}
 use Rattle.std.proofs.lemmas.List.{append_cancel_right}
 use Rattle.order_certificate.specs.Certificate.{max_steps}
-use Rattle.order_certificate.specs.Fields.{after, digit_at, decimal_at, count_at, counts_from, ending_at}
+use Rattle.order_certificate.specs.Fields.{after, digit_at, count_at, counts_from, ending_at}
 use Rattle.order_certificate.specs.OrderText.{ending}
 use Rattle.order_certificate.specs.Reading.{AreCounts, IsEnding}
-use Rattle.order_certificate.proofs.Decimals.{IsDecimal, decimal_takes, decimal_again}
+use Rattle.order_certificate.proofs.Decimals.{decimal_takes, decimal_again}
 use Rattle.order_certificate.proofs.Feedless.{IsFeedless, feedless_none, feedless_byte, feedless_both, feedless_decimal}
 use Rattle.order_certificate.proofs.LineReads.{IsWritten}
 use Rattle.order_certificate.proofs.Words.{bind_some, bind_is, bind_none, some_parts, after_takes, after_again}
@@ -121,9 +121,10 @@ ending_takes : (n : ℕ) (text counts rest : List ℕ) → ending_at n text ≡ 
 unfolding ending_at ending_body
 ending_takes n text counts rest e =
     let word = bind_some (after (codes "end") text) _ _ e in
-    let taken = counts_takes n [] word.value counts rest word.more in
-    ( after_takes (codes "end") text word.value word.is ∙ ap (λ t. codes "end" ++ t) (taken.is ∙ ap (λ more. flat_map counted more ++ 10 ∷ rest) (sym taken.all))
-    , (ap length taken.all ∙ taken.long, subst AreCounts (sym taken.all) taken.few) )
+    let taken = counts_takes n [] word.value counts rest word.more in (
+      after_takes (codes "end") text word.value word.is ∙ ap (λ t. codes "end" ++ t) (taken.is ∙ ap (λ more. flat_map counted more ++ 10 ∷ rest) (sym taken.all)),
+      (ap length taken.all ∙ taken.long, subst AreCounts (sym taken.all) taken.few),
+    )
 
 ending_again : (n : ℕ) (counts rest : List ℕ) → (length counts ≡ n) × AreCounts counts → ending_at n (ending_body counts ++ 10 ∷ rest) ≡ Some (counts, rest)
 unfolding ending_at ending_body

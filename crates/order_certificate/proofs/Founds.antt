@@ -1,14 +1,14 @@
 -- A text that is read as an order is that order's text.
-use Rattle.std.proofs.Common.{◌≡◌, ℕ, suc, ◌+◌, ◌<◌, ◌≤◌, Bool, true, false, nat_lt, if◌then◌else◌, ◌⊎◌, inl, inr, List, [], ◌∷◌, ◌++◌, length, sum, codes, Option, Some, None, Result, Ok, Err, refl, sym, ap, ◌∙◌, subst, arith, append_assoc, append-nil, length-append}
+use Rattle.std.proofs.Common.{◌≡◌, ℕ, ◌+◌, ◌≤◌, Bool, true, false, nat_lt, if◌then◌else◌, inl, inr, List, [], ◌∷◌, ◌++◌, length, sum, Option, Result, Ok, Err, refl, sym, ap, ◌∙◌, subst, arith, append_assoc, append-nil, length-append}
 use Rattle.std.specs.List.{AllByRecursion, flat_map}
 use Rattle.std.proofs.lemmas.Bool.Decides.{nat_tests}
 use Rattle.order_certificate.specs.declared.fault.TextFault.{TextFault}
-use Rattle.order_certificate.specs.declared.fault.TextFault.TheVariants.{BadLine, Truncated, TooMany, Memory}
+use Rattle.order_certificate.specs.declared.fault.TextFault.TheVariants.{BadLine, TooMany}
 use Rattle.order_certificate.specs.Certificate.{max_steps}
-use Rattle.order_certificate.specs.Reading.{pieces, is_all, AreCounts, IsEnding, ended, IsBody, IsHeading}
+use Rattle.order_certificate.specs.Reading.{pieces, is_all, ended, IsBody, IsHeading}
 use Rattle.order_certificate.proofs.Bodies.{printed}
 use Rattle.order_certificate.proofs.Counts.{ending_body, ending_written}
-use Rattle.order_certificate.proofs.Cuts.{IsLineFirst, pieces_cut, all_read}
+use Rattle.order_certificate.proofs.Cuts.{pieces_cut, all_read}
 use Rattle.order_certificate.proofs.LineReads.{IsWritten}
 
 -- an order was read at its end line: the counts add to no more than they may, and nothing is left
@@ -72,8 +72,8 @@ module _ {A : Type 0} {Is : List ℕ → A → Type 0} {P : A → Type 0} {body 
           counts = rest.counts;
           same = ap (λ es. order es rest.counts) (sym moved) ∙ rest.same;
           is = first.is ∙ ap (λ p. p ++ 10 ∷ first.rest) told.0 ∙ ap (λ t. body read.0 ++ 10 ∷ t) rest.is
-            ∙ sym (append_assoc (body read.0) (10 ∷ []) (flat_map (printed w order n) rest.more ++ (ending_body rest.counts ++ 10 ∷ [])))
-            ∙ sym (append_assoc (body read.0 ++ 10 ∷ []) (flat_map (printed w order n) rest.more) (ending_body rest.counts ++ 10 ∷ []));
+              ∙ sym (append_assoc (body read.0) (10 ∷ []) (flat_map (printed w order n) rest.more ++ (ending_body rest.counts ++ 10 ∷ [])))
+              ∙ sym (append_assoc (body read.0 ++ 10 ∷ []) (flat_map (printed w order n) rest.more) (ending_body rest.counts ++ 10 ∷ []));
           all = (told.1, rest.all);
           few = subst (λ es. length es ≤ max_steps) moved rest.few;
           long = rest.long;

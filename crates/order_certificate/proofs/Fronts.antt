@@ -1,10 +1,10 @@
 -- What the text of an order, and what each front of it, is read as.
-use Rattle.std.proofs.Common.{◌≡◌, ℕ, suc, ◌+◌, ◌<◌, ◌≤◌, ◌⊎◌, inl, inr, List, [], ◌∷◌, ◌++◌, length, sum, codes, Option, Some, None, Result, Ok, Err, refl, sym, ap, ◌∙◌, subst, arith, append_assoc, append-nil, length-append}
+use Rattle.std.proofs.Common.{◌≡◌, ℕ, ◌+◌, ◌≤◌, ◌⊎◌, inl, inr, List, [], ◌∷◌, ◌++◌, length, sum, Option, Result, Ok, Err, refl, sym, ap, ◌∙◌, subst, arith, append_assoc, append-nil, length-append}
 use Rattle.std.specs.List.{AllByRecursion, flat_map}
 use Rattle.order_certificate.specs.declared.fault.TextFault.{TextFault}
-use Rattle.order_certificate.specs.declared.fault.TextFault.TheVariants.{BadLine, Truncated, TooMany, Memory}
+use Rattle.order_certificate.specs.declared.fault.TextFault.TheVariants.{Truncated}
 use Rattle.order_certificate.specs.Certificate.{max_steps}
-use Rattle.order_certificate.specs.Reading.{pieces, AreCounts, ended, IsBody, IsHeading}
+use Rattle.order_certificate.specs.Reading.{pieces, AreCounts, IsBody, IsHeading}
 use Rattle.order_certificate.proofs.Bodies.{heading_taken, body_entry, body_end, printed}
 use Rattle.order_certificate.proofs.Counts.{ending_body, ending_written}
 use Rattle.order_certificate.proofs.Cuts.{EndsInLine, HasLine, front_line, pieces_last}

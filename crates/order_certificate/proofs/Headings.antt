@@ -1,5 +1,5 @@
 -- The lines of the heading, read from the front of a text and printed.
-use Rattle.std.proofs.Common.{◌≡◌, ◌≢◌, ℕ, ◌+◌, ◌^◌, ◌<◌, ◌≤◌, Bool, true, false, nat_eq, ◌⊎◌, inl, inr, if◌then◌else◌, List, [], ◌∷◌, ◌++◌, codes, decimal, Option, Some, None, option_map, option_and_then, refl, sym, ap, ◌∙◌, subst, arith, append_assoc}
+use Rattle.std.proofs.Common.{◌≡◌, ℕ, ◌+◌, ◌≤◌, Bool, true, false, nat_eq, ◌⊎◌, inl, inr, if◌then◌else◌, List, ◌∷◌, ◌++◌, codes, decimal, Option, Some, None, option_map, option_and_then, refl, ap, ◌∙◌, arith, append_assoc}
 use Rattle.std.specs.Option.{option_or}
 use Rattle.std.proofs.lemmas.Bool.Decides.{nat_tests}
 use Rattle.rsim_base.specs.declared.memory.Model.{Model}
@@ -9,9 +9,9 @@ use Rattle.order_certificate.specs.Fields.{◌>>=◌, after, digit_at, decimal_t
 use Rattle.order_certificate.specs.OrderText.{model_name, heading}
 use Rattle.order_certificate.specs.Reading.{IsVersion, IsModel, IsProcessors}
 use Rattle.order_certificate.proofs.Accesses.{decimal_then_takes, decimal_then_again}
-use Rattle.order_certificate.proofs.Feedless.{IsFeedless, feedless_none, feedless_byte, feedless_both, feedless_decimal, feedless_by_test}
+use Rattle.order_certificate.proofs.Feedless.{IsFeedless, feedless_both, feedless_decimal, feedless_by_test}
 use Rattle.order_certificate.proofs.LineReads.{IsWritten}
-use Rattle.order_certificate.proofs.Words.{Stepped, bind_some, bind_is, some_parts, after_takes, after_again}
+use Rattle.order_certificate.proofs.Words.{bind_some, bind_is, some_parts, after_takes, after_again}
 
 -- ---- the version
 
@@ -29,9 +29,9 @@ version_written = record {
   back = λ piece a is. (is, tt);
   free = λ a ok. feedless_by_test (codes "rsim order 1") refl;
   takes = λ text a rest e.
-    let word = bind_some (after (codes "rsim order 1\n") text) _ _ e in
-    let same = some_parts tt word.value a rest word.more in
-    (after_takes (codes "rsim order 1\n") text word.value word.is ∙ ap (λ t. codes "rsim order 1\n" ++ t) same.1, tt);
+      let word = bind_some (after (codes "rsim order 1\n") text) _ _ e in
+      let same = some_parts tt word.value a rest word.more in
+      (after_takes (codes "rsim order 1\n") text word.value word.is ∙ ap (λ t. codes "rsim order 1\n" ++ t) same.1, tt);
   again = λ a rest ok. bind_is (after (codes "rsim order 1\n") (codes "rsim order 1\n" ++ rest)) _ rest (after_again (codes "rsim order 1\n") rest);
 }
 
@@ -91,10 +91,10 @@ model_written = record {
   back = λ piece m is. (is, tt);
   free = λ m ok. free m;
   takes = λ text m rest e.
-    let word = bind_some (after (codes "model ") text) _ _ e in
-    (after_takes (codes "model ") text word.value word.is ∙ ap (λ t. codes "model " ++ t) (model_in_takes word.value m rest word.more), tt);
+      let word = bind_some (after (codes "model ") text) _ _ e in
+      (after_takes (codes "model ") text word.value word.is ∙ ap (λ t. codes "model " ++ t) (model_in_takes word.value m rest word.more), tt);
   again = λ m rest ok.
-    bind_is (after (codes "model ") (codes "model " ++ (model_name m ++ 10 ∷ rest))) _ _ (after_again (codes "model ") (model_name m ++ 10 ∷ rest)) ∙ model_in_again m rest;
+      bind_is (after (codes "model ") (codes "model " ++ (model_name m ++ 10 ∷ rest))) _ _ (after_again (codes "model ") (model_name m ++ 10 ∷ rest)) ∙ model_in_again m rest;
 }
   where
     free : (m : Model) → IsFeedless (codes "model " ++ model_name m)
@@ -127,9 +127,10 @@ processors_takes text n rest e =
     let word = bind_some (after (codes "processors ") text) _ _ e in
     let number = bind_some (decimal_then (max_processors + 1) 10 word.value) _ _ word.more in
     let taken = decimal_then_takes (max_processors + 1) 10 word.value number.value.0 number.value.1 (omega arith) number.is in
-    let same = some_number number.value.0 number.value.1 n rest number.more in
-    ( after_takes (codes "processors ") text word.value word.is ∙ ap (λ t. codes "processors " ++ t) (taken.is ∙ (λ i. decimal (same.0 i) ++ 10 ∷ same.1 i))
-    , (omega (arith, same.0, same.2), omega (arith, same.0, taken.small)) )
+    let same = some_number number.value.0 number.value.1 n rest number.more in (
+      after_takes (codes "processors ") text word.value word.is ∙ ap (λ t. codes "processors " ++ t) (taken.is ∙ (λ i. decimal (same.0 i) ++ 10 ∷ same.1 i)),
+      (omega (arith, same.0, same.2), omega (arith, same.0, taken.small)),
+    )
 
 processors_again : (n : ℕ) (rest : List ℕ) → (1 ≤ n) × (n ≤ max_processors) → processors_at (processors_body n ++ 10 ∷ rest) ≡ Some (n, rest)
 unfolding processors_at processors_body

@@ -1,6 +1,6 @@
 -- Hexadecimal numbers, read digit by digit.
-use Rattle.std.proofs.Common.{◌≡◌, ℕ, zero, suc, ◌+◌, ◌-◌, ◌*◌, ◌/◌, ◌%◌, ◌^◌, ◌<◌, ◌≤◌, Bool, true, false, ◌&&◌, nat_lt, nat_le, nat_eq, if◌then◌else◌, List, [], ◌∷◌, ◌++◌, length, get_or, take, drop, Option, Some, None, option_and_then, refl, sym, ap, ◌∙◌, arith, append-nil, add-one, drop-cons, length-append, length-take}
-use Rattle.std.proofs.Math.Nat.{div-div-eq-div-mul, pow-succ', lt-div-mul-add, div-eq_of_lt, pow-le-pow_right, one-le-pow, mul_comm, mul_assoc, zero-mul}
+use Rattle.std.proofs.Common.{◌≡◌, ℕ, zero, suc, ◌+◌, ◌*◌, ◌/◌, ◌%◌, ◌^◌, ◌<◌, ◌≤◌, Bool, true, false, nat_lt, if◌then◌else◌, List, [], ◌∷◌, ◌++◌, length, get_or, take, drop, Option, Some, None, option_and_then, refl, sym, ap, ◌∙◌, arith, add-one, drop-cons, length-append, length-take}
+use Rattle.std.proofs.Math.Nat.{div-div-eq-div-mul, pow-succ', lt-div-mul-add, pow-le-pow_right, one-le-pow, mul_comm, mul_assoc, zero-mul}
 use Rattle.std.proofs.Math.Seq.{take-append_seam, drop-append_seam}
 use Rattle.std.proofs.lemmas.Bool.Decides.{nat_tests}
 use Rattle.std.proofs.lemmas.List.{take-append-drop, drop_all}

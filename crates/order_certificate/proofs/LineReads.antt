@@ -1,5 +1,5 @@
 -- A kind of line: what it tells, how it is printed, and how it is read from the front of a text.
-use Rattle.std.proofs.Common.{◌≡◌, ℕ, List, [], ◌∷◌, ◌++◌, Option, Some, None, sym, ap, ◌∙◌}
+use Rattle.std.proofs.Common.{◌≡◌, ℕ, List, [], ◌∷◌, ◌++◌, Option, Some, sym, ap, ◌∙◌}
 use Rattle.order_certificate.proofs.Feedless.{IsFeedless}
 use Rattle.order_certificate.proofs.Words.{some_parts}
 

@@ -1,12 +1,10 @@
 -- A text is read as one thing.
-use Rattle.std.proofs.Common.{◌≡◌, ℕ, ◌+◌, ◌<◌, ◌≤◌, ◌⊎◌, inl, inr, List, [], ◌∷◌, ◌++◌, length, codes, Option, Some, None, Result, Ok, Err, refl, sym, ap, ◌∙◌, subst, arith}
+use Rattle.std.proofs.Common.{◌≡◌, ℕ, ◌+◌, inl, inr, List, [], ◌∷◌, ◌++◌, Option, Some, None, Result, refl, sym, ap, ◌∙◌, subst, arith}
 use Rattle.rsim_base.specs.declared.memory.Access.{Access}
-use Rattle.rsim_base.specs.declared.memory.Model.{Model}
 use Rattle.order_certificate.specs.declared.fault.TextFault.{TextFault}
-use Rattle.order_certificate.specs.declared.fault.TextFault.TheVariants.{BadLine, Truncated, TooMany, Memory}
-use Rattle.order_certificate.specs.Certificate.{CertificateView, max_steps}
+use Rattle.order_certificate.specs.Certificate.{CertificateView}
 use Rattle.order_certificate.specs.Fields.{digit_at, digits_at, decimal_at, decimal_then, access_at}
-use Rattle.order_certificate.specs.Reading.{pieces, ended, IsVersion, IsModel, IsProcessors, IsAccess, IsEnding, IsBody, IsHeading, order_of, IsOrder, IsRead}
+use Rattle.order_certificate.specs.Reading.{pieces, ended, IsAccess, IsEnding, IsBody, IsHeading, order_of, IsRead}
 use Rattle.order_certificate.proofs.Accesses.{access_written}
 use Rattle.order_certificate.proofs.Counts.{ending_body, ending_written}
 use Rattle.order_certificate.proofs.Headings.{version_written, model_written, processors_written}
@@ -65,5 +63,5 @@ pub read_once : (text : List ℕ) (r s : Result CertificateView TextFault) → I
 read_once text r s first second =
     heading_once version_written 1 (behind_version r) (behind_version s) (pieces text) r s
     (λ a left x y. heading_once model_written 2 (behind_model r) (behind_model s) left r s
-      (λ m left x y. heading_once processors_written 3 (behind_processors m r) (behind_processors m s) left r s
-        (λ n left x y. body_once access_written apart_from_end (order_of m n) n left [] 4 r s x y) x y) x y) first second
+    (λ m left x y. heading_once processors_written 3 (behind_processors m r) (behind_processors m s) left r s
+    (λ n left x y. body_once access_written apart_from_end (order_of m n) n left [] 4 r s x y) x y) x y) first second

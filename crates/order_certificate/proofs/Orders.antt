@@ -1,6 +1,6 @@
 -- What the text of an order is read as, from what the parts of it are read as.
-use Rattle.std.proofs.Common.{◌≡◌, ℕ, ◌+◌, ◌-◌, ◌<◌, ◌≤◌, Bool, true, false, nat_lt, if◌then◌else◌, ◌⊎◌, inl, inr, List, [], ◌∷◌, ◌++◌, length, sum, codes, Option, Some, None, IsSome, Result, Ok, Err, refl, sym, ap, ◌∙◌, subst, arith, append_assoc, append-nil, length-append}
-use Rattle.std.specs.List.{All, AllByRecursion, flat_map}
+use Rattle.std.proofs.Common.{◌≡◌, ℕ, ◌+◌, ◌<◌, ◌≤◌, true, false, nat_lt, if◌then◌else◌, ◌⊎◌, inl, inr, List, [], ◌∷◌, ◌++◌, length, sum, codes, Option, Some, None, IsSome, Result, Ok, Err, refl, sym, ap, ◌∙◌, subst, arith, append_assoc, append-nil, length-append}
+use Rattle.std.specs.List.{flat_map}
 use Rattle.std.proofs.lemmas.Bool.Decides.{nat_tests}
 use Rattle.std.proofs.lemmas.Grind.{flat_map-append}
 use Rattle.std.proofs.lemmas.List.Elements.{All-append, All-cons, All-nil, recursion_from_All}
@@ -10,12 +10,12 @@ use Rattle.order_certificate.specs.declared.fault.TextFault.{TextFault}
 use Rattle.order_certificate.specs.declared.fault.TextFault.TheVariants.{BadLine, Truncated, TooMany, Memory}
 use Rattle.order_certificate.specs.Certificate.{CertificateView, IsInText, max_steps}
 use Rattle.order_certificate.specs.Fields.{after, model_at, processors_at, access_at, ending_at, fault_at, HasHeading, HasLines, IsOverfull}
-use Rattle.order_certificate.specs.OrderText.{line, heading}
-use Rattle.order_certificate.specs.Reading.{pieces, is_all, ended, IsVersion, IsModel, IsProcessors, IsAccess, IsBody, IsHeading, order_of, IsOrder, IsRead, Reads}
+use Rattle.order_certificate.specs.OrderText.{line}
+use Rattle.order_certificate.specs.Reading.{pieces, is_all, ended, IsModel, IsProcessors, IsAccess, IsBody, IsHeading, order_of, IsOrder, IsRead, Reads}
 use Rattle.order_certificate.proofs.Accesses.{access_body, line_is, access_written}
 use Rattle.order_certificate.proofs.Bodies.{heading_taken, heading_none, body_full, body_end, body_none, body_entries}
 use Rattle.order_certificate.proofs.Cuts.{not_all_read}
-use Rattle.order_certificate.proofs.Headings.{version_at, version_at-after, version_written, model_body, model_written, processors_body, processors_written, heading_lines}
+use Rattle.order_certificate.proofs.Headings.{version_at-after, version_written, model_body, model_written, processors_body, processors_written, heading_lines}
 use Rattle.order_certificate.proofs.Words.{after_takes}
 
 -- ---- results
@@ -50,7 +50,7 @@ has_lines_more text lines rest e behind has found room =
     let printed : rest ≡ line e ++ behind = taken.0 ∙ sym (append_assoc (access_body e) (10 ∷ []) behind) ∙ ap (λ t. t ++ behind) (sym (line_is e)) in
     record {
       is = has.is ∙ ap (λ t. flat_map line lines ++ t) printed ∙ sym (append_assoc (flat_map line lines) (line e) behind)
-        ∙ ap (λ t. t ++ behind) (ap (λ t. flat_map line lines ++ t) (sym (append-nil (line e))) ∙ sym (flat_map-append line lines (e ∷ [])));
+          ∙ ap (λ t. t ++ behind) (ap (λ t. flat_map line lines ++ t) (sym (append-nil (line e))) ∙ sym (flat_map-append line lines (e ∷ [])));
       in_text = All-append IsInText lines (e ∷ []) has.in_text (All-cons IsInText e [] taken.1 (All-nil IsInText));
       few = omega (arith, length-append lines (e ∷ []));
     }
@@ -152,7 +152,7 @@ module _ (text : List ℕ) where
           let processors = processors_written.takes text₃ n rest found₃ in
           record {
             is = after_takes (codes "rsim order 1\n") text text₂ found
-              ∙ ap (λ t. codes "rsim order 1\n" ++ t) ((model_written.takes text₂ m text₃ found₂).0 ∙ ap (λ t. model_body m ++ 10 ∷ t) processors.0) ∙ sym (heading_lines m n rest);
+                ∙ ap (λ t. codes "rsim order 1\n" ++ t) ((model_written.takes text₂ m text₃ found₂).0 ∙ ap (λ t. model_body m ++ 10 ∷ t) processors.0) ∙ sym (heading_lines m n rest);
             some = processors.1.0;
             most = processors.1.1;
           }
@@ -164,5 +164,5 @@ read_behind text m n rest r has more =
     let text₂ : List ℕ = model_body m ++ 10 ∷ text₃ in
     subst (λ t. IsRead t r) (sym (has.is ∙ heading_lines m n rest))
     (heading_taken version_written 1 (behind_version r) (codes "rsim order 1\n" ++ text₂) tt text₂ r (version_written.again tt text₂ tt)
-      (heading_taken model_written 2 (behind_model r) text₂ m text₃ r (model_written.again m text₃ tt)
-        (heading_taken processors_written 3 (behind_processors m r) text₃ n rest r (processors_written.again n rest (has.some, has.most)) more)))
+    (heading_taken model_written 2 (behind_model r) text₂ m text₃ r (model_written.again m text₃ tt)
+    (heading_taken processors_written 3 (behind_processors m r) text₃ n rest r (processors_written.again n rest (has.some, has.most)) more)))

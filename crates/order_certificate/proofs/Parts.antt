@@ -1,5 +1,5 @@
 -- The parts of an order's text, piece by piece.
-use Rattle.std.proofs.Common.{◌≡◌, ℕ, ◌^◌, ◌<◌, ◌≤◌, List, [], ◌∷◌, ◌++◌, codes, decimal, take, take_all, length, Result, Ok, Err, OnOk, append_assoc, refl, ap, ◌∙◌}
+use Rattle.std.proofs.Common.{◌≡◌, ℕ, ◌^◌, ◌<◌, ◌≤◌, List, [], ◌∷◌, ◌++◌, codes, decimal, take, take_all, length, Result, Ok, Err, OnOk, append_assoc}
 use Rattle.std.specs.List.{concat, flat_map}
 use Rattle.rsim_base.specs.Accesses.{loads, stores}
 use Rattle.rsim_base.specs.Bytes.{count_of}

@@ -1,15 +1,14 @@
 -- The text of an order is read as that order, each front of it is read as cut off, and no other text is read as an order.
-use Rattle.std.proofs.Common.{◌≡◌, ℕ, zero, suc, ◌+◌, ◌<◌, ◌≤◌, ◌⊎◌, inl, inr, List, [], ◌∷◌, ◌++◌, length, take, drop, sum, codes, slice_get, get_or, Option, Some, None, Result, Ok, Err, IfOk, refl, sym, ap, ◌∙◌, subst, arith, rules, append_assoc, append-nil, length-append, length-drop}
+use Rattle.std.proofs.Common.{◌≡◌, ℕ, zero, suc, ◌<◌, ◌≤◌, List, [], ◌∷◌, ◌++◌, length, take, drop, sum, codes, slice_get, Some, Result, Ok, Err, IfOk, refl, sym, ap, ◌∙◌, subst, arith, append_assoc, append-nil, length-drop}
 use Rattle.std.specs.List.{AllByRecursion, flat_map}
 use Rattle.std.proofs.lemmas.List.{take-append-drop}
 use Rattle.std.proofs.lemmas.List.Sums.{sum_by-cons}
 use Rattle.rsim_base.specs.declared.memory.Access.{Access}
-use Rattle.rsim_base.specs.declared.memory.Model.{Model}
 use Rattle.order_certificate.specs.declared.fault.TextFault.{TextFault}
-use Rattle.order_certificate.specs.declared.fault.TextFault.TheVariants.{BadLine, Truncated, TooMany, Memory}
+use Rattle.order_certificate.specs.declared.fault.TextFault.TheVariants.{Truncated}
 use Rattle.order_certificate.specs.Certificate.{CertificateView, IsCertificate, IsInText, text_of, max_steps}
 use Rattle.order_certificate.specs.OrderText.{line, heading, ending}
-use Rattle.order_certificate.specs.Reading.{pieces, AreCounts, order_of, IsOrder, IsRead, Reads}
+use Rattle.order_certificate.specs.Reading.{pieces, AreCounts, order_of, IsRead, Reads}
 use Rattle.order_certificate.proofs.Accesses.{access_body, access_written}
 use Rattle.order_certificate.proofs.Counts.{ending_body, ending_is}
 use Rattle.order_certificate.proofs.Founds.{heading_told, body_found}
@@ -86,7 +85,7 @@ read_found text c read =
       in_text = each_in_text found.more found.all;
     } in
     let is : text ≡ text_of made =
-      version.is ∙ ap (λ t. codes "rsim order 1\n" ++ t) (model.is ∙ ap (λ t. model_body model.value ++ 10 ∷ t) (processors.is ∙ ap (λ t. processors_body processors.value ++ 10 ∷ t) found.is)) ∙ sym (text_lines made) in
+    version.is ∙ ap (λ t. codes "rsim order 1\n" ++ t) (model.is ∙ ap (λ t. model_body model.value ++ 10 ∷ t) (processors.is ∙ ap (λ t. processors_body processors.value ++ 10 ∷ t) found.is)) ∙ sym (text_lines made) in
     subst (λ d. IsCertificate d × (text ≡ text_of d)) found.same (ok, is)
 
 -- ---- the clauses on a result that the text is read as

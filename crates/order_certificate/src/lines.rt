@@ -3,7 +3,9 @@ ghost use Rattle.std.specs.Prelude.{◌≡◌, ◌≤◌, ◌++◌, ◌∷◌, [
 ghost use Rattle.order_certificate.specs.Certificate.{max_steps};
 ghost use Rattle.order_certificate.specs.Fields.{model_in, model_at, processors_at, access_at, count_at, counts_from, ending_at};
 
-use crate::fields::{after, after_byte, decimal_at, decimal_then, hex_then, kind_then, size_then, value_then};
+use crate::fields::{
+    after, after_byte, decimal_at, decimal_then, hex_then, kind_then, size_then, value_then,
+};
 use rsim_base::{Access, Addr, Model, NoMemory, Node};
 use std::alloc::Global;
 

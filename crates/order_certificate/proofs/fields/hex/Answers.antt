@@ -1,6 +1,5 @@
-use Rattle.std.proofs.Common.{◌≡◌, ◌+◌, ◌*◌, ◌<◌, ◌≤◌, length, get_or, drop, None, Some, refl, sym, ap, ◌∙◌, arith, rules}
-use Rattle.std.proofs.lemmas.List.{drop_all}
-use Rattle.order_certificate.specs.Fields.{hex_digit, hex_from}
+use Rattle.std.proofs.Common.{◌≡◌, ◌<◌, ◌≤◌, length, get_or, None, Some, sym, ◌∙◌, arith, rules}
+use Rattle.order_certificate.specs.Fields.{hex_digit}
 use Rattle.order_certificate.proofs.HexDigits.{hex_from_more, hex_from_none, hex_from_end, longer_fits, fits_64}
 use Rattle.order_certificate.proofs.fields.hex.Goals as goal
 

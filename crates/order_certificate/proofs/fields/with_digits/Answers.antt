@@ -1,5 +1,4 @@
-use Rattle.std.proofs.Common.{◌≡◌, sym, ap, ◌∙◌}
-use Rattle.order_certificate.specs.Fields.{with_digits}
+use Rattle.std.proofs.Common.{sym, ap, ◌∙◌}
 use Rattle.order_certificate.proofs.Decimals.{with_digits_more, with_digits_end}
 use Rattle.order_certificate.proofs.fields.with_digits.Goals as goal
 

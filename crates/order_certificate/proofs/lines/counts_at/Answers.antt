@@ -1,4 +1,4 @@
-use Rattle.std.proofs.Common.{◌≡◌, ◌<◌, ◌≤◌, ◌+◌, ◌-◌, ◌++◌, ◌∷◌, [], sym, ap, ◌∙◌, arith, rules}
+use Rattle.std.proofs.Common.{◌≡◌, ◌+◌, ◌-◌, ◌++◌, ◌∷◌, [], sym, ap, ◌∙◌, rules}
 use Rattle.order_certificate.specs.Fields.{counts_from}
 use Rattle.order_certificate.proofs.Counts.{counts_from_more, counts_from_none, counts_from_end, counts_from_no_end}
 use Rattle.order_certificate.proofs.lines.counts_at.Goals as goal

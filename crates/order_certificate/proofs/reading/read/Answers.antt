@@ -1,5 +1,4 @@
 use Rattle.std.proofs.Common.{◌≡◌, Err, sym, subst, rules}
-use Rattle.std.proofs.lemmas.Result.{err_from_is_err_and}
 use Rattle.order_certificate.specs.Reading.{pieces, IsOrder, IsRead, Reads}
 use Rattle.order_certificate.proofs.Orders.{reads_of, reads_map, read_behind}
 use Rattle.order_certificate.proofs.Wholes.{reads_whole, reads_front, found_of}

@@ -1,4 +1,4 @@
-use Rattle.std.proofs.Common.{sym, subst, rules, Err}
+use Rattle.std.proofs.Common.{sym, subst, Err}
 use Rattle.order_certificate.specs.Reading.{IsRead}
 use Rattle.order_certificate.proofs.Orders.{no_version, no_model, no_processors, has_heading}
 use Rattle.order_certificate.proofs.reading.read_heading.Goals as goal

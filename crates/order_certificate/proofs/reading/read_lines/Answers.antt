@@ -1,4 +1,4 @@
-use Rattle.std.proofs.Common.{◌≡◌, ◌<◌, ◌++◌, ◌∷◌, [], length, sym, subst, rules}
+use Rattle.std.proofs.Common.{sym, subst}
 use Rattle.order_certificate.specs.Fields.{HasLines}
 use Rattle.order_certificate.proofs.Orders.{has_lines_more, shorter}
 use Rattle.order_certificate.proofs.reading.read_lines.Goals as goal

@@ -1,8 +1,8 @@
-use Rattle.std.proofs.Common.{◌≡◌, ◌+◌, ◌<◌, ◌≤◌, length, sum, Some, None, Result, Ok, Err, refl, sym, ap, ◌∙◌, subst, arith, rules}
+use Rattle.std.proofs.Common.{◌≡◌, ◌+◌, ◌<◌, ◌≤◌, length, sum, Some, None, Err, sym, ap, ◌∙◌, subst, arith, rules}
 use Rattle.std.proofs.lemmas.Bool.Decides.{nat_tests}
-use Rattle.order_certificate.specs.declared.fault.TextFault.TheVariants.{TooMany, BadLine}
+use Rattle.order_certificate.specs.declared.fault.TextFault.TheVariants.{BadLine}
 use Rattle.order_certificate.specs.Fields.{ending_at, fault_at}
-use Rattle.order_certificate.specs.Reading.{pieces, ended, IsOrder, order_of, Reads}
+use Rattle.order_certificate.specs.Reading.{pieces, IsOrder, order_of, Reads}
 use Rattle.order_certificate.proofs.Counts.{ending_written}
 use Rattle.order_certificate.proofs.Orders.{reads_of, reads_fault, order_none, order_end, ended_many, ended_all, ended_more}
 use Rattle.order_certificate.proofs.reading.read_order.Goals as goal
