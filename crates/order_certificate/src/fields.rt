@@ -127,13 +127,14 @@ fn hex(digits: &[u8]) -> Option<u64>
     Some(number)
 }
 
+// One computation serves digits and letters, so that the only branch is on whether it is one of them: which of the
+// two it is cannot be foretold.
 fn hex_digit(digit: u8) -> Option<u64>
     ensures value { result ≡ hex_digit digit }
     ensures small { IfSome result (λ d. d ≤ 15) }
 {
     match digit {
-        b'0'..=b'9' => Some(u64::from(digit - b'0')),
-        b'a'..=b'f' => Some(u64::from(digit - b'a') + 10),
+        b'0'..=b'9' | b'a'..=b'f' => Some(u64::from(digit % 16 + digit / 64 * 9)),
         _ => None,
     }
 }

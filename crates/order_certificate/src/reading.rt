@@ -99,10 +99,11 @@ fn read_lines(alloc: Global, text: &[u8]) -> Result<(Vec<Access>, &[u8]), TextFa
 
 // At least as many as there are accesses, as far as there may be so many: each has a line feed.
 fn room_for(text: &[u8]) -> usize {
-    text.iter()
-        .filter(|byte| **byte == b'\n')
-        .count()
-        .min(MAX_STEPS as usize)
+    let mut feeds: usize = 0;
+    for byte in text {
+        feeds += usize::from(*byte == b'\n');
+    }
+    feeds.min(MAX_STEPS as usize)
 }
 
 // Puts one more access behind the others.
