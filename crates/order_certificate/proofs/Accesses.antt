@@ -18,7 +18,7 @@ use Rattle.order_certificate.specs.OrderText.{kind_letter, value_text, value_or_
 use Rattle.order_certificate.specs.Reading.{IsAccess}
 use Rattle.order_certificate.proofs.Decimals.{IsDecimal, decimal_takes, decimal_again}
 use Rattle.order_certificate.proofs.Feedless.{IsFeedless, feedless_none, feedless_byte, feedless_both, feedless_decimal, feedless_hex}
-use Rattle.order_certificate.proofs.HexDigits.{hex_takes, hex_again}
+use Rattle.order_certificate.proofs.HexDigits.{IsHex, hex_takes, hex_again}
 use Rattle.order_certificate.proofs.LineReads.{IsWritten}
 use Rattle.order_certificate.proofs.Words.{bind_some, bind_is, some_parts, after_takes, after_again, then_takes, then_again}
 
@@ -174,6 +174,26 @@ record Taken (text : List ℕ) (e : Access) (rest : List ℕ) : Type 0 where
   is : text ≡ access_body e ++ 10 ∷ rest
   in_text : IsInText e
 
+-- the parts of a line, one behind the other, are the line
+joined : (e : Access) (text t₁ t₂ t₃ t₄ t₅ t₆ rest : List ℕ) → IsDecimal 256 e.node.0 text (32 ∷ t₁) → IsDecimal max_steps e.index t₁ (32 ∷ t₂) → t₂ ≡ kind_letter e.kind ++ 32 ∷ t₃ → t₃ ≡ decimal (count_of e.size) ++ 32 ∷ t₄ →
+    IsHex 16 e.addr.0 32 t₄ t₅ → IsValue (loads e.kind) e.size e.loaded 32 t₅ t₆ → IsValue (stores e.kind) e.size e.stored 10 t₆ rest → Taken text e rest
+joined e text t₁ t₂ t₃ t₄ t₅ t₆ rest node index kind size addr loaded stored = record {
+  is =
+      node.is ∙ ap (λ t. decimal e.node.0 ++ 32 ∷ t) (index.is ∙ ap (λ t. decimal e.index ++ 32 ∷ t) (kind ∙ ap (λ t. kind_letter e.kind ++ 32 ∷ t) (size ∙ ap (λ t. decimal (count_of e.size) ++ 32 ∷ t)
+      (addr.is ∙ ap (λ t. hex 16 e.addr.0 ++ 32 ∷ t) (loaded.is ∙ ap (λ t. value_or_dash (loads e.kind) e.size e.loaded ++ 32 ∷ t) stored.is)))))
+      ∙ sym (body_on e rest);
+  in_text = record {
+    node = node.small;
+    index = index.small;
+    printable = record { addr = addr.fits; loaded = loaded.fits; stored = stored.fits };
+    loaded = loaded.lacks;
+    stored = stored.lacks;
+  };
+}
+
+taken_as : (text : List ℕ) (made e : Access) (left rest : List ℕ) → made ≡ e → left ≡ rest → Taken text made left → Taken text e rest
+taken_as text made e left rest same_access same_left taken = subst (λ x. Taken text x rest) same_access (subst (Taken text made) same_left taken)
+
 access_takes : (text : List ℕ) (e : Access) (rest : List ℕ) → access_at text ≡ Some (e, rest) → Taken text e rest
 unfolding access_at
 access_takes text e rest found =
@@ -186,28 +206,15 @@ access_takes text e rest found =
     let stored = bind_some (value_then (stores kind.value.0) size.value.0 10 loaded.value.1) _ _ loaded.more in
     let made : Access = record { node = record { 0 = node.value.0 }; kind = kind.value.0; size = size.value.0; index = index.value.0; addr = record { 0 = addr.value.0 }; loaded = loaded.value.0; stored = stored.value.0 } in
     let same = some_parts made stored.value.1 e rest stored.more in
-    let is_node = decimal_then_takes 256 32 text node.value.0 node.value.1 (omega arith) node.is in
-    let is_index = decimal_then_takes max_steps 32 node.value.1 index.value.0 index.value.1 (omega arith) index.is in
-    let is_kind = kind_takes index.value.1 kind.value.0 kind.value.1 kind.is in
-    let is_size = size_takes kind.value.1 size.value.0 size.value.1 size.is in
-    let is_addr = hex_takes 15 32 size.value.1 addr.value.0 addr.value.1 (omega arith) addr.is in
-    let is_loaded = value_takes (loads kind.value.0) size.value.0 32 addr.value.1 loaded.value.0 loaded.value.1 loaded.is in
-    let is_stored = value_takes (stores kind.value.0) size.value.0 10 loaded.value.1 stored.value.0 stored.value.1 stored.is in
-    let taken : Taken text made stored.value.1 = record {
-      is =
-          is_node.is ∙ ap (λ t. decimal node.value.0 ++ 32 ∷ t) (is_index.is ∙ ap (λ t. decimal index.value.0 ++ 32 ∷ t) (is_kind ∙ ap (λ t. kind_letter kind.value.0 ++ 32 ∷ t) (is_size
-          ∙ ap (λ t. decimal (count_of size.value.0) ++ 32 ∷ t) (is_addr.is ∙ ap (λ t. hex 16 addr.value.0 ++ 32 ∷ t) (is_loaded.is
-          ∙ ap (λ t. value_or_dash (loads kind.value.0) size.value.0 loaded.value.0 ++ 32 ∷ t) is_stored.is)))))
-          ∙ sym (body_on made stored.value.1);
-      in_text = record {
-        node = is_node.small;
-        index = is_index.small;
-        printable = record { addr = is_addr.fits; loaded = is_loaded.fits; stored = is_stored.fits };
-        loaded = is_loaded.lacks;
-        stored = is_stored.lacks;
-      };
-    } in
-    subst (λ (p : Access × List ℕ). Taken text p.0 p.1) (λ i. (same.0 i, same.1 i)) taken
+    taken_as text made e stored.value.1 rest same.0 same.1
+    (joined made text node.value.1 index.value.1 kind.value.1 size.value.1 addr.value.1 loaded.value.1 stored.value.1
+    (decimal_then_takes 256 32 text node.value.0 node.value.1 (omega arith) node.is)
+    (decimal_then_takes max_steps 32 node.value.1 index.value.0 index.value.1 (omega arith) index.is)
+    (kind_takes index.value.1 kind.value.0 kind.value.1 kind.is)
+    (size_takes kind.value.1 size.value.0 size.value.1 size.is)
+    (hex_takes 15 32 size.value.1 addr.value.0 addr.value.1 (omega arith) addr.is)
+    (value_takes (loads kind.value.0) size.value.0 32 addr.value.1 loaded.value.0 loaded.value.1 loaded.is)
+    (value_takes (stores kind.value.0) size.value.0 10 loaded.value.1 stored.value.0 stored.value.1 stored.is))
 
 access_again : (e : Access) (rest : List ℕ) → IsInText e → access_at (access_body e ++ 10 ∷ rest) ≡ Some (e, rest)
 unfolding access_at

@@ -32,6 +32,7 @@ then_byte behind field = field >>= λ x. after (behind ∷ []) x.1 >>= λ rest. 
 
 -- ---- decimals
 
+-- a digit, '0' to '9'
 unfoldable pub digit_at : List ℕ → Option (ℕ × List ℕ)
 digit_at [] = None
 digit_at (b ∷ text) = if nat_le 48 b && nat_le b 57 then Some (b - 48, text) else None
@@ -46,7 +47,7 @@ with_digits limit number [] = (number, [])
 with_digits limit number (b ∷ text) =
     if nat_lt number limit && (nat_le 48 b && nat_le b 57) then with_digits limit (10 * number + (b - 48)) text else (number, b ∷ text)
 
--- 0, or the digits of another number
+-- 0 alone, or the digits of another number
 unfoldable pub digits_at : ℕ → List ℕ → Option (ℕ × List ℕ)
 digits_at limit text = digit_at text >>= λ first. Some (if first.0 == 0 then first else with_digits limit first.0 first.1)
 
@@ -54,11 +55,13 @@ digits_at limit text = digit_at text >>= λ first. Some (if first.0 == 0 then fi
 unfoldable pub decimal_at : ℕ → List ℕ → Option (ℕ × List ℕ)
 decimal_at limit text = digits_at limit text >>= λ x. if nat_lt x.0 limit then Some x else None
 
+-- such a number, and a byte behind it
 unfoldable pub decimal_then : ℕ → ℕ → List ℕ → Option (ℕ × List ℕ)
 decimal_then limit behind text = then_byte behind (decimal_at limit text)
 
 -- ---- hexadecimals
 
+-- '0' to '9', or 'a' to 'f'
 abbrev pub hex_digit : ℕ → Option ℕ
 hex_digit b =
     if nat_le 48 b && nat_le b 57 then Some (b - 48)
@@ -70,13 +73,13 @@ unfoldable pub hex_from : ℕ → List ℕ → Option ℕ
 hex_from number [] = Some number
 hex_from number (b ∷ digits) = hex_digit b >>= λ d. hex_from (16 * number + d) digits
 
--- a number of so many digits
+-- a number of so many digits, and a byte behind it
 unfoldable pub hex_then : ℕ → ℕ → List ℕ → Option (ℕ × List ℕ)
 hex_then width behind text =
     if nat_lt (length text) width then None
     else (hex_from 0 (take width text) >>= λ number. after (behind ∷ []) (drop width text) >>= λ rest. Some (number, rest))
 
--- a value, or the dash of one that is not there
+-- a value, or the dash of one that is not there, and a byte behind it
 unfoldable pub value_then : Bool → Size → ℕ → List ℕ → Option (ℕ × List ℕ)
 value_then has size behind text =
     if has then hex_then (2 * count_of size) behind text else (after (codes "-" ++ behind ∷ []) text >>= λ rest. Some (0, rest))
@@ -88,26 +91,32 @@ unfoldable pub letter_then : {A : Type 0} → (ℕ → Option A) → ℕ → Lis
 letter_then of behind [] = None
 letter_then of behind (b ∷ text) = of b >>= λ a. after (behind ∷ []) text >>= λ rest. Some (a, rest)
 
+-- 'L', 'S' or 'A'
 abbrev pub kind_of : ℕ → Option Kind
 kind_of b = if b == 76 then Some Load else if b == 83 then Some Store else if b == 65 then Some Atomic else None
 
+-- '1', '2', '4' or '8'
 abbrev pub size_of : ℕ → Option Size
 size_of b = if b == 49 then Some B1 else if b == 50 then Some B2 else if b == 52 then Some B4 else if b == 56 then Some B8 else None
 
 -- ---- lines
 
+-- a model's name, and the line feed
 abbrev pub model_in : List ℕ → Option (Model × List ℕ)
 model_in text =
     option_or (option_map (λ rest. (Sc, rest)) (after (codes "sc\n") text))
     (option_or (option_map (λ rest. (Pc, rest)) (after (codes "pc\n") text))
     (option_map (λ rest. (Rc, rest)) (after (codes "rc\n") text)))
 
+-- the line of the model
 unfoldable pub model_at : List ℕ → Option (Model × List ℕ)
 model_at text = after (codes "model ") text >>= λ rest. model_in rest
 
+-- the line of the number of processors
 unfoldable pub processors_at : List ℕ → Option (ℕ × List ℕ)
 processors_at text = after (codes "processors ") text >>= λ rest. decimal_then (max_processors + 1) 10 rest >>= λ x. if x.0 == 0 then None else Some x
 
+-- the line of an access
 unfoldable pub access_at : List ℕ → Option (Access × List ℕ)
 access_at text = do
   node ← decimal_then 256 32 text
@@ -119,6 +128,7 @@ access_at text = do
   stored ← value_then (stores kind.0) size.0 10 loaded.1
   Some (record { node = record { 0 = node.0 }; kind = kind.0; size = size.0; index = index.0; addr = record { 0 = addr.0 }; loaded = loaded.0; stored = stored.0 }, stored.1)
 
+-- a blank and a count
 unfoldable pub count_at : List ℕ → Option (ℕ × List ℕ)
 count_at text = after (codes " ") text >>= λ rest. decimal_at (max_steps + 1) rest
 
@@ -127,6 +137,7 @@ unfoldable pub counts_from : ℕ → List ℕ → List ℕ → Option (List ℕ 
 counts_from zero counts text = after (codes "\n") text >>= λ rest. Some (counts, rest)
 counts_from (suc n) counts text = count_at text >>= λ x. counts_from n (counts ++ x.0 ∷ []) x.1
 
+-- the end line of n processors
 unfoldable pub ending_at : ℕ → List ℕ → Option (List ℕ × List ℕ)
 ending_at n text = after (codes "end") text >>= λ rest. counts_from n [] rest
 
