@@ -1,0 +1,2 @@
+pub mod LineMap
+pub mod Misses

@@ -1,0 +1,7 @@
+//! The miss registers of a node, and the slots for the victims of its second-level cache.
+#![tactic(auto)]
+
+mod line_table;
+mod registers;
+
+pub use registers::MissRegisters;
