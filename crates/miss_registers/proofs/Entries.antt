@@ -1,5 +1,5 @@
 -- The entries of lines in the slots of a slab: which value a line has, and what a change of one slot leaves.
-use Rattle.std.proofs.Common.{◌≡◌, ◌≢◌, ℕ, zero, suc, ◌==◌, Bool, true, false, cond, List, [], ◌∷◌, map, filter_map, Option, Some, None, option_map, ◌⊎◌, inl, inr, ⊎_elim, get_or, refl, sym, ap, ◌∙◌, subst, arith}
+use Rattle.std.proofs.Common.{◌≡◌, ◌≢◌, ℕ, zero, suc, ◌==◌, true, false, cond, List, [], ◌∷◌, map, filter_map, Option, Some, None, option_map, ◌⊎◌, inl, inr, ⊎_elim, get_or, refl, sym, ap, ◌∙◌, subst}
 use Rattle.std.specs.Ordering.{nat_cmp, eq_by_cmp}
 use Rattle.std.specs.Cmp.{unsigned_tied}
 use Rattle.std.specs.FinMap.{find}

@@ -1,5 +1,5 @@
 -- The misses of a node: the lines that were asked for, and the victims whose acknowledgement is awaited.
-use Rattle.std.specs.Prelude.{ℕ, List, Bool, true, false, ◌||◌, ◌==◌, not, Option, Some, None, option_and_then, is_some, if◌then◌else◌, refl}
+use Rattle.std.specs.Prelude.{ℕ, List, Bool, false, ◌||◌, ◌==◌, not, Option, Some, None, option_and_then, is_some, if◌then◌else◌, refl}
 use Rattle.std.specs.Coded.{Coded, code_by, coded×, coded_ℕ, coded_bool, coded_list, coded_option}
 use Rattle.std.specs.Ordering.{nat_cmp}
 use Rattle.std.specs.FinMap.{FinMap, get, insert, remove, len, code}

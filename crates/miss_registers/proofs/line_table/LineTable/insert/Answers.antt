@@ -1,9 +1,8 @@
-use Rattle.std.proofs.Common.{◌≡◌, ◌==◌, ℕ, Some, None, refl, sym, ap, ◌∙◌, arith, rules}
+use Rattle.std.proofs.Common.{◌≡◌, Some, None, arith}
 use Rattle.std.specs.FinMap as finite
 use Rattle.std.proofs.lemmas.Bool.Decides.{nat_tests}
-use Rattle.slab.specs.Slab.{get, slab_len}
 use Rattle.miss_registers.specs.LineMap.{lines_of}
-use Rattle.miss_registers.proofs.Entries.{IsKeyOf, AreApart-update}
+use Rattle.miss_registers.proofs.Entries.{AreApart-update}
 use Rattle.miss_registers.proofs.LineMaps.{IsKeyOf-vacant, lines_of-put, len-lines_of}
 use Rattle.miss_registers.proofs.line_table.LineTable.insert.Goals as goal
 
