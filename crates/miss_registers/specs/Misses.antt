@@ -61,6 +61,6 @@ with_victim line slot m = record m { victims = insert m.victims line slot }
 abbrev pub without_victim : ℕ → MissView → MissView
 without_victim line m = record m { victims = remove m.victims line }
 
--- where the line has a slot, it is emptied
+-- the line's slot is emptied, if it has one
 abbrev pub with_emptied : ℕ → MissView → MissView
-with_emptied line m = if is_some (victim_of m line) then with_victim line None m else m
+with_emptied line m = record m { victims = if is_some (victim_of m line) then insert m.victims line None else m.victims }

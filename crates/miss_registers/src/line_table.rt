@@ -73,7 +73,7 @@ impl<T: Drop> LineTable<T> {
     /// Sets the value of a line. False where the line has no place, and then nothing changes.
     pub fn set(&mut self, line: Line, value: T) -> bool
         ensures found { result ≡ is_some (finite.get self.old.lines line.0) }
-        ensures after { self.new ≡ (if result then record self.old { lines = finite.insert self.old.lines line.0 value } else self.old) }
+        ensures after { self.new ≡ record self.old { lines = if result then finite.insert self.old.lines line.0 value else self.old.lines } }
     {
         match find(&self.entries, line) {
             Some(key) => {
