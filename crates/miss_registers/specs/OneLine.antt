@@ -1,6 +1,6 @@
--- Each change of the misses as functions of the line see it: the line's own register or slot is new, and each other
--- line's is as before. The words of the other table stay as they compute.
-use Rattle.std.proofs.Common.{◌≡◌, ℕ, ◌==◌, Bool, true, false, cond, List, Option, Some, None, option_map, is_some, refl, sym, ap, ◌∙◌}
+-- What a change leaves of each line: the line's own register or slot is new, and each other line's is as before. That a
+-- change of registers leaves every slot, and the other way round, computes.
+use Rattle.std.proofs.Common.{◌≡◌, ℕ, ◌==◌, Bool, true, false, cond, List, Option, Some, None, option_map, is_some, refl, ap, ◌∙◌}
 use Rattle.std.specs.Ordering.{nat_cmp}
 use Rattle.std.specs.Cmp.{nat_cmp_total, unsigned_tied}
 use Rattle.std.specs.FinMap.{FinMap, get, insert, remove, get-insert, get-remove}

@@ -8,13 +8,12 @@ use rsim_base::{Line, NoMemory, NoneFree};
 use std::alloc::Global;
 use std::marker::Model;
 
-/// The misses of one node that are under way, in a fixed number of registers, and in as many slots the owned lines that
-/// were evicted and whose `Put` is not yet acknowledged.
+/// The misses of one node that are under way, in a fixed number of registers; and in as many slots the victims: owned
+/// lines that were evicted, until their home acknowledges it.
 ///
-/// A line has at most one register and at most one slot. A register is open from the request for its line to the
-/// `Grant`, and knows whether it asked to own the line. A slot keeps the line's bytes until they are recalled, and is
-/// emptied then; it is freed by the acknowledgement alone. A line is of 128 bytes at most, and the bytes past its end
-/// are kept as they are given.
+/// A line has at most one register and at most one slot. A register is open from the request for its line to the grant,
+/// and knows whether it asks to own the line. A slot keeps the line's bytes until they are recalled, and is emptied
+/// then; only the acknowledgement frees it. The bytes are always 128, the most that a line can have.
 #[derive(Drop)]
 pub struct MissRegisters {
     registers: LineTable<bool>,
@@ -65,10 +64,7 @@ impl MissRegisters {
     pub fn merge(&self, line: Line, own: bool) -> bool
         ensures { result ≡ covers (register_of self.now line.0) own }
     {
-        match self.registers.get(line) {
-            Some(owns) => *owns || !own,
-            None => false,
-        }
+        self.registers.get(line).is_some_and(|owns| *owns || !own)
     }
 
     /// Closes the line's register. False where it has none, and then nothing changes.

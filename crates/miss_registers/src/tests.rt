@@ -71,7 +71,7 @@ fn called(misses: &mut MissRegisters, call: u64, line: Line, byte: u8) -> Answer
 impl Expected {
     // The same call here.
     fn called(&mut self, call: u64, place: usize, byte: u8) -> Answer
-        requires { place < 5 }
+        requires { place < LINES }
     {
         match call {
             0 => Answer::Place(put(&mut self.registers, place, false)),
