@@ -1,0 +1,3 @@
+pub mod LineMap
+pub mod Misses
+pub mod OneLine
