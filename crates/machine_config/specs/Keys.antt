@@ -54,6 +54,10 @@ processors = key (codes "processors") (number 1 16) 1 (λ c. c.processors)
 abbrev pub mesh_width : Key
 mesh_width = key (codes "mesh_width") (number 1 16) 1 (λ c. c.mesh_width)
 
+-- the most instructions that a processor retires in a cycle
+abbrev pub retire_width : Key
+retire_width = key (codes "retire_width") (number 1 8) 4 (λ c. c.retire_width)
+
 unfoldable pub keys : List Key
 keys =
     processors
@@ -72,7 +76,7 @@ keys =
     ∷ key (codes "rename_registers") (number 8 512) 128 (λ c. c.rename_registers)
     ∷ key (codes "fetch_width") (number 1 8) 4 (λ c. c.fetch_width)
     ∷ key (codes "fetch_queue") (number 1 32) 8 (λ c. c.fetch_queue)
-    ∷ key (codes "retire_width") (number 1 8) 4 (λ c. c.retire_width)
+    ∷ retire_width
     ∷ key (codes "store_buffer") (number 1 32) 8 (λ c. c.store_buffer)
     ∷ key (codes "ports") (number 1 4) 2 (λ c. c.ports)
     ∷ key (codes "alu_units") (number 1 8) 2 (λ c. c.alu_units)

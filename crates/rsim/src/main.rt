@@ -1,4 +1,4 @@
-//! `rsim EXE CYCLES ORDER` runs a SPARC V9 executable on one in-order processor.
+//! `rsim EXE CONFIG CYCLES ORDER` runs a SPARC V9 executable on one in-order processor.
 #![tactic(auto)]
 
 use rsim_io::{FileShelf, StdSink};

@@ -4,11 +4,14 @@
 
 mod failures;
 mod file_shelf;
+mod mem_files;
 mod mem_shelf;
 mod mem_sink;
 mod shelf;
 mod sink;
 mod std_sink;
+mod sure_shelf;
+mod sure_sink;
 mod transfers;
 
 pub use file_shelf::FileShelf;
@@ -17,3 +20,5 @@ pub use mem_sink::MemSink;
 pub use shelf::{FetchFault, Shelf, StoreFault};
 pub use sink::Sink;
 pub use std_sink::StdSink;
+pub use sure_shelf::SureShelf;
+pub use sure_sink::SureSink;

@@ -1,4 +1,4 @@
-// A shelf in memory.
+// A shelf in memory whose calls fail as they are told.
 ghost use Rattle.std.specs.Prelude.{◌≡◌, ◌⊎◌, ◌↔◌, ◌-◌, ◌^◌, ◌<◌, [], IfOk, OnOk, OnErr, IsErrOf, Some, None, true, false, is_some, option_copied};
 ghost use Rattle.std.specs.FinMap.{empty, get, insert};
 ghost use Rattle.rsim_io.specs.Failures.{next_fails, after_next, after_next_of};
@@ -6,29 +6,27 @@ ghost use Rattle.rsim_io.specs.Faults.{HasCause};
 ghost use Rattle.rsim_io.specs.Files.{Fetches, Creates, Appends};
 
 use crate::failures::Failures;
+use crate::mem_files::MemFiles;
 use crate::{FetchFault, Shelf, StoreFault};
 use rsim_base::NoMemory;
 use std::alloc::Global;
-use std::collections::BTreeMap;
 use std::marker::Model;
 
 /// A shelf that keeps its files in memory, and whose calls fail as they are told.
 #[derive(Drop)]
 pub struct MemShelf {
-    alloc: Global,
-    files: BTreeMap<String, Vec<u8>>,
+    files: MemFiles,
     failures: Failures,
 }
 
 impl Model for MemShelf {
     ghost use Rattle.rsim_io.specs.Memory.{ShelfInMemory, shelf_code};
-    ghost use Rattle.rsim_io.specs.Entries.{files_of};
 
     ghost Value = { ShelfInMemory };
 
     ghost coded = { shelf_code };
 
-    ghost view = { λ s. record { files = files_of s.files; failing = s.failures } };
+    ghost view = { λ s. record { files = s.files; failing = s.failures } };
 }
 
 impl MemShelf {
@@ -37,8 +35,7 @@ impl MemShelf {
         ensures { IfOk result (λ shelf. shelf ≡ record { files = empty; failing = record { fails = fails.items; calls = 0; faults = 0 } }) }
     {
         Ok(MemShelf {
-            alloc,
-            files: BTreeMap::new(alloc),
+            files: MemFiles::new(alloc),
             failures: Failures::new(fails),
         })
     }
@@ -48,18 +45,14 @@ impl MemShelf {
         ensures ok { OnOk result (self.new ≡ record self.old { files = insert self.old.files name.now bytes.now }) }
         ensures err { OnErr result (self.new ≡ self.old) }
     {
-        let name = String::from_str(self.alloc, name).map_err(|_| NoMemory)?;
-        let bytes = bytes.to_vec(self.alloc).map_err(|_| NoMemory)?;
-        self.files.insert(name, bytes).map_err(|_| NoMemory)?;
-        Ok(())
+        self.files.set(name, bytes)
     }
 
     /// The bytes of a file, if the shelf holds it.
     pub fn file(&self, name: &str) -> Option<&[u8]>
         ensures { option_copied result ≡ get self.now.files name.now }
     {
-        let file = self.files.get(name)?;
-        Some(file)
+        self.files.file(name)
     }
 }
 
@@ -83,17 +76,13 @@ impl Shelf for MemShelf {
         if self.failures.count_call() {
             return Err(FetchFault::Failed);
         }
-        let Some(file) = self.file(name) else {
-            self.failures.add_fault();
-            return Err(FetchFault::Failed);
-        };
-        if file.len() as u64 <= limit {
-            return into.extend_from_slice(file).map_err(|_| FetchFault::Memory);
+        match self.files.fetch(name, into, limit) {
+            Err(FetchFault::Failed) => {
+                self.failures.add_fault();
+                Err(FetchFault::Failed)
+            }
+            fetched => fetched,
         }
-        let first = limit as usize + 1;
-        into.extend_from_slice(&file[..first])
-            .map_err(|_| FetchFault::Memory)?;
-        Err(FetchFault::TooLarge)
     }
 
     fn create(&mut self, name: &str) -> Result<(), StoreFault>
@@ -106,7 +95,7 @@ impl Shelf for MemShelf {
         if self.failures.count_call() {
             return Err(StoreFault::Failed);
         }
-        self.set(name, &[]).map_err(|_| StoreFault::Memory)
+        self.files.create(name)
     }
 
     fn append(&mut self, name: &str, bytes: &[u8]) -> Result<(), StoreFault>
@@ -119,12 +108,7 @@ impl Shelf for MemShelf {
         if self.failures.count_call() {
             return Err(StoreFault::Failed);
         }
-        match self.files.get_mut(name) {
-            Some(file) => file
-                .extend_from_slice(bytes)
-                .map_err(|_| StoreFault::Memory),
-            None => self.set(name, bytes).map_err(|_| StoreFault::Memory),
-        }
+        self.files.append(name, bytes)
     }
 }
 

@@ -1,7 +1,7 @@
--- The order of the one processor fits its executable, under sequential consistency.
+-- The order of the one processor fits its executable under each consistency model, since it is the order of the program.
 use Rattle.std.proofs.Common.{◌≡◌, ℕ, zero, suc, List, [], ◌∷◌, map, Some, slice_get, refl, sym, ap, ◌∙◌, arith}
 use Rattle.rsim_base.specs.declared.memory.Access.{Access}
-use Rattle.rsim_base.specs.declared.memory.Model.TheVariants.{Sc}
+use Rattle.rsim_base.specs.declared.memory.Model.{Model}
 use Rattle.elf64_load.specs.Image.{ImageView}
 use Rattle.rsim_base.specs.Made.{Made}
 use Rattle.rsim_top.specs.declared.processor.Processor.{Processor}
@@ -32,8 +32,8 @@ stands_once made order zero i m numbered are is =
     (i, m.access, at, (numbered i m.access at).node, (numbered i m.access at).index)
 stands_once made order (suc p) i m numbered are is = absurd cc
 
-Respects-in_order : (made : List Made) (order : List Access) → AreNumbered order → AreOf made order → Respects Sc (made ∷ []) order
-Respects-in_order made order numbered are = record {
+Respects-in_order : (model : Model) (made : List Made) (order : List Access) → AreNumbered order → AreOf made order → Respects model (made ∷ []) order
+Respects-in_order model made order numbered are = record {
   made = λ j e stands.
       let here = made_here made order j e are stands in
       (here.0, made_at_first made e.node.0 e.index (numbered j e stands).node ∙ ap (slice_get made) (numbered j e stands).index ∙ here.1, entry e here.0.access here.2);
@@ -50,14 +50,14 @@ slice_get_only : {A : Type 0} (x y : A) (i : ℕ) → slice_get (x ∷ []) i ≡
 slice_get_only x y zero e = (refl, cc)
 slice_get_only x y (suc i) e = absurd cc
 
-pub Fit-from_sound : (image : ImageView) (p : Processor) (sound : IsSound image p) → Fit image Sc (p.retired ∷ []) p.order.items (sound.ran ∷ [])
-Fit-from_sound image p sound = record {
+pub Fit-from_sound : (model : Model) (image : ImageView) (p : Processor) (sound : IsSound image p) → Fit image model (p.retired ∷ []) p.order.items (sound.ran ∷ [])
+Fit-from_sound model image p sound = record {
   values = loaded_values p.order.items ∷ [];
   are_loaded = λ j e vs at_j is_load at_node. rw ((slice_get_only _ vs e.node.0 at_node).1, (sound.numbered j e at_j).index) (slice_get_mapped (λ a. a.loaded) p.order.items j e at_j);
   have_values = refl;
   have_runs = refl;
   are_run = λ q k vs ran at_steps at_values at_runs.
       rw ((slice_get_only _ k q at_steps).0, (slice_get_only _ k q at_steps).1, (slice_get_only _ vs q at_values).1, (slice_get_only _ ran q at_runs).1) sound.has_run;
-  respects = Respects-in_order sound.ran.accesses p.order.items sound.numbered sound.is_run.accesses;
+  respects = Respects-in_order model sound.ran.accesses p.order.items sound.numbered sound.is_run.accesses;
   explains = sound.explains;
 }

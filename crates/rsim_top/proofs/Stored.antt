@@ -8,7 +8,7 @@ use Rattle.std.specs.FinMap.{get, insert, get-insert, same_map, slice_cmp-IsAnti
 use Rattle.rsim_io.specs.Files.{Files, with_more, Appends}
 use Rattle.rsim_io.specs.Written.{Puts}
 use Rattle.rsim_io.specs.declared.shelf.StoreFault.{StoreFault}
-use Rattle.rsim_top.specs.Answers.{IsPrefix, HasFile, HasPrefixOfFile, HasPrefixWritten}
+use Rattle.rsim_top.specs.Outside.{IsPrefix, HasFile, HasPrefixOfFile, HasPrefixWritten}
 
 -- the bytes of a name that was just set
 get-insert_same : (files : Files) (name bytes : List ℕ) → get (insert files name bytes) name ≡ Some bytes

@@ -5,24 +5,24 @@ use Rattle.std.proofs.lemmas.List.{take-append-drop, flat_map_more}
 use Rattle.std.proofs.lemmas.List.Concat.{flat_map-append}
 use Rattle.std.specs.List.{flat_map}
 use Rattle.rsim_base.specs.declared.memory.Access.{Access}
-use Rattle.rsim_base.specs.declared.memory.Model.TheVariants.{Sc}
+use Rattle.rsim_base.specs.declared.memory.Model.{Model}
 use Rattle.sparc_meaning.specs.declared.arch.End.{End}
 use Rattle.order_certificate.specs.OrderText.{heading, line, ending}
 use Rattle.rsim_top.specs.Machine.{order_of, report_of}
 use Rattle.rsim_top.specs.ReportText.{report, end_text}
 
 -- an order that is written so far, and what follows
-pub order_of-parts : (order : List Access) (steps i : ℕ) → (heading Sc 1 ++ flat_map line (take i order)) ++ (flat_map line (drop i order) ++ ending (steps ∷ [])) ≡ order_of order steps
+pub order_of-parts : (model : Model) (order : List Access) (steps i : ℕ) → (heading model 1 ++ flat_map line (take i order)) ++ (flat_map line (drop i order) ++ ending (steps ∷ [])) ≡ order_of model order steps
 unfolding order_of
-order_of-parts order steps i =
-    sym (append_assoc (heading Sc 1 ++ flat_map line (take i order)) (flat_map line (drop i order)) (ending (steps ∷ [])))
-    ∙ ap (λ t. t ++ ending (steps ∷ [])) (append_assoc (heading Sc 1) (flat_map line (take i order)) (flat_map line (drop i order))
-    ∙ ap (λ t. heading Sc 1 ++ t) (sym (flat_map-append line (take i order) (drop i order)) ∙ ap (flat_map line) (take-append-drop i order)))
+order_of-parts model order steps i =
+    sym (append_assoc (heading model 1 ++ flat_map line (take i order)) (flat_map line (drop i order)) (ending (steps ∷ [])))
+    ∙ ap (λ t. t ++ ending (steps ∷ [])) (append_assoc (heading model 1) (flat_map line (take i order)) (flat_map line (drop i order))
+    ∙ ap (λ t. heading model 1 ++ t) (sym (flat_map-append line (take i order) (drop i order)) ∙ ap (flat_map line) (take-append-drop i order)))
 
 -- an order of which all lines are written, and its end
-pub order_of-end : (order : List Access) (steps : ℕ) → (heading Sc 1 ++ flat_map line order) ++ ending (steps ∷ []) ≡ order_of order steps
+pub order_of-end : (model : Model) (order : List Access) (steps : ℕ) → (heading model 1 ++ flat_map line order) ++ ending (steps ∷ []) ≡ order_of model order steps
 unfolding order_of
-order_of-end order steps = refl
+order_of-end model order steps = refl
 
 take_next : {A : Type 0} (xs : List A) (i : ℕ) (x : A) → slice_get xs i ≡ Some x → take (suc i) xs ≡ take i xs ++ x ∷ []
 take_next [] i x at = absurd cc
@@ -30,8 +30,8 @@ take_next (y ∷ xs) zero x at = cc
 take_next (y ∷ xs) (suc i) x at = ap (λ t. y ∷ t) (take_next xs i x at)
 
 -- the lines so far with one more
-pub lines_more : (order : List Access) (i : ℕ) (e : Access) → slice_get order i ≡ Some e → (heading Sc 1 ++ flat_map line (take i order)) ++ line e ≡ heading Sc 1 ++ flat_map line (take (i + 1) order)
-lines_more order i e at = rw add-one (flat_map_more line (heading Sc 1) (take i order) e ∙ ap (λ t. heading Sc 1 ++ flat_map line t) (sym (take_next order i e at)))
+pub lines_more : (model : Model) (order : List Access) (i : ℕ) (e : Access) → slice_get order i ≡ Some e → (heading model 1 ++ flat_map line (take i order)) ++ line e ≡ heading model 1 ++ flat_map line (take (i + 1) order)
+lines_more model order i e at = rw add-one (flat_map_more line (heading model 1) (take i order) e ∙ ap (λ t. heading model 1 ++ flat_map line t) (sym (take_next order i e at)))
 
 -- what stands before the output, and behind it
 abbrev pub head_of : ℕ → End → ℕ → List ℕ

@@ -1,60 +1,58 @@
 -- What each part of a command answers and leaves.
-use Rattle.std.specs.Prelude.{◌≡◌, ℕ, List, Option, Some, Ok}
-use Rattle.rsim_io.specs.Faults.{Rose}
+use Rattle.std.specs.Prelude.{◌≡◌, ◌⊎◌, ◌≤◌, ℕ, List, Option, Some, None, Result, Ok, Err, Vec}
 use Rattle.rsim_io.specs.Files.{Files}
+use Rattle.command_words.specs.declared.read.RunWords.{RunWords}
+use Rattle.command_words.specs.Asked.{RunAsked}
+use Rattle.command_words.specs.Reading.{executable_of}
+use Rattle.machine_config.specs.declared.config.Config.{Config}
+use Rattle.machine_config.specs.Faults.{Reads}
 use Rattle.elf64_load.specs.Image.{ImageView}
-use Rattle.elf64_load.specs.Faults.{first_fault, Loads}
-use Rattle.rsim_top.specs.declared.refusal.File.TheVariants.{Exe, Order, Report}
+use Rattle.elf64_load.specs.Faults.{Loads}
+use Rattle.rsim_top.specs.declared.refusal.File.{File}
+use Rattle.rsim_top.specs.declared.refusal.File.TheVariants as file
 use Rattle.rsim_top.specs.declared.refusal.Refusal.{Refusal}
-use Rattle.rsim_top.specs.declared.refusal.Refusal.TheVariants.{Words, Read, Big, Elf, Write, Memory}
-use Rattle.rsim_top.specs.Answers.{IsTooLong}
+use Rattle.rsim_top.specs.declared.refusal.Refusal.TheVariants.{Write, Memory}
 use Rattle.rsim_top.specs.declared.processor.Processor.{Processor}
+use Rattle.rsim_top.specs.Outside.{Shelf, Sink, HasFile, HasPrefixOfFile, HasWritten, HasPrefixWritten, MayFail}
 use Rattle.rsim_top.specs.Processor.{IsOver}
+use Rattle.rsim_top.specs.Steps.{IsFetched, fetch_refusal, setup_refusal, image_refusal}
 
--- why the executable was not fetched
-abbrev pub FailsToFetch : Option Files → List ℕ → ℕ → ℕ → Refusal → Type 0
-FailsToFetch files name before now (Read Exe) = Rose before now
-FailsToFetch files name before now (Big Exe) = IsTooLong files name
-FailsToFetch files name before now Memory = Unit {0}
-FailsToFetch files name before now (Words fault) = ⊥
-FailsToFetch files name before now (Read Order) = ⊥
-FailsToFetch files name before now (Read Report) = ⊥
-FailsToFetch files name before now (Big Order) = ⊥
-FailsToFetch files name before now (Big Report) = ⊥
-FailsToFetch files name before now (Elf fault) = ⊥
-FailsToFetch files name before now (Write file) = ⊥
+-- what words that were read ask for
+abbrev pub asked_by : RunWords → RunAsked
+asked_by w = record { executable = executable_of w.executable; config = w.config.now; cycles = w.cycles; order = w.order.now }
 
--- a processor that has run the file's image
-abbrev pub HasRunFile : List ℕ → ℕ → Processor → Type 0
-HasRunFile file cycles p = (image : ImageView) × Loads file (Ok image) × IsOver image cycles p
+-- a file that was fetched, or why it was not
+abbrev pub Fetches : {A : Type 0} → Shelf → Shelf → File → ℕ → List ℕ → Result (Vec ℕ A) Refusal → Type 0
+Fetches old new which limit name (Ok bytes) = IsFetched old new name (Some bytes.items) × (fetch_refusal which limit (Some bytes.items) ≡ None)
+Fetches old new which limit name (Err why) =
+    (why ≡ Memory) ⊎ ((came : Option (List ℕ)) × IsFetched old new name came × (fetch_refusal which limit came ≡ Some why))
 
--- why a file was not run
-abbrev pub FailsToRun : List ℕ → Refusal → Type 0
-FailsToRun file (Elf fault) = first_fault file ≡ Some fault
-FailsToRun file Memory = Unit {0}
-FailsToRun file (Words fault) = ⊥
-FailsToRun file (Read which) = ⊥
-FailsToRun file (Big which) = ⊥
-FailsToRun file (Write which) = ⊥
+-- a text's settings, or why they are refused
+abbrev pub SetsUp : ℕ → List ℕ → Result Config Refusal → Type 0
+SetsUp cycles text (Ok config) = Reads text (Ok config) × (setup_refusal cycles text ≡ None)
+SetsUp cycles text (Err why) = (why ≡ Memory) ⊎ (setup_refusal cycles text ≡ Some why)
 
--- why the order was not written
-abbrev pub FailsToOrder : ℕ → ℕ → Refusal → Type 0
-FailsToOrder before now (Write Order) = Rose before now
-FailsToOrder before now Memory = Unit {0}
-FailsToOrder before now (Words fault) = ⊥
-FailsToOrder before now (Read which) = ⊥
-FailsToOrder before now (Big which) = ⊥
-FailsToOrder before now (Elf fault) = ⊥
-FailsToOrder before now (Write Exe) = ⊥
-FailsToOrder before now (Write Report) = ⊥
+-- a processor that has run the executable's image, or why it was not run
+abbrev pub HasRun : ℕ → List ℕ → Processor → Type 0
+HasRun cycles exe p = (image : ImageView) × Loads exe (Ok image) × IsOver image cycles p
 
--- why the report was not written
-abbrev pub FailsToReport : ℕ → ℕ → Refusal → Type 0
-FailsToReport before now (Write Report) = Rose before now
-FailsToReport before now Memory = Unit {0}
-FailsToReport before now (Words fault) = ⊥
-FailsToReport before now (Read which) = ⊥
-FailsToReport before now (Big which) = ⊥
-FailsToReport before now (Elf fault) = ⊥
-FailsToReport before now (Write Exe) = ⊥
-FailsToReport before now (Write Order) = ⊥
+abbrev pub Runs : ℕ → List ℕ → Result Processor Refusal → Type 0
+Runs cycles exe (Ok p) = HasRun cycles exe p
+Runs cycles exe (Err why) = (why ≡ Memory) ⊎ (image_refusal exe ≡ Some why)
+
+-- the file of the order, as far as it was written
+abbrev pub StoresOrder : Shelf → Shelf → List ℕ → List ℕ → Result (Unit {0}) Refusal → Type 0
+StoresOrder old new name text (Ok _) = HasFile name text old.files new.files
+StoresOrder old new name text (Err why) =
+    HasPrefixOfFile name text old.files new.files × ((why ≡ Memory) ⊎ ((why ≡ Write file.Order) × MayFail old.is_sure old.faults new.faults))
+
+-- the report, as far as it was written
+abbrev pub PutsReport : Sink → Sink → List ℕ → Result (Unit {0}) Refusal → Type 0
+PutsReport old new text (Ok _) = HasWritten text old.written new.written
+PutsReport old new text (Err why) =
+    HasPrefixWritten text old.written new.written × ((why ≡ Memory) ⊎ ((why ≡ Write file.Report) × MayFail old.is_sure old.faults new.faults))
+
+-- the count of faults has not fallen, and the shelf is as sure as before
+pub record Kept (old new : Shelf) : Type 0 where
+  pub faults : old.faults ≤ new.faults
+  pub is_sure : new.is_sure ≡ old.is_sure

@@ -1,22 +1,26 @@
 // The top call.
-ghost use Rattle.std.specs.Prelude.{◌≡◌, ◌≤◌, map, string_bytes, IfOk, IfErr, IsErrOf, OnOk, OnErr};
-ghost use Rattle.rsim_io.specs.Faults.{HasCause};
-ghost use Rattle.rsim_top.specs.Answers.{Answers, outside, IsExact, IsExecutable, HasFile, HasPrefixOfFile, HasWritten, HasPrefixWritten};
+ghost use Rattle.std.specs.Prelude.{◌≡◌, ◌≤◌, ◌<◌, ◌-◌, ◌^◌, IfOk, length, map, string_bytes};
+ghost use Rattle.rsim_top.specs.Answers.{Answers, AnswersFile};
+ghost use Rattle.rsim_top.specs.Causes.{IsExact, IsComplete};
 ghost use Rattle.rsim_top.specs.Machine.{order_of, report_of};
-ghost use Rattle.rsim_top.specs.Parts.{FailsToFetch, HasRunFile, FailsToRun, FailsToOrder, FailsToReport};
+ghost use Rattle.rsim_top.specs.Outside.{outside, shelf_of, sink_of};
+ghost use Rattle.rsim_top.specs.Parts.{asked_by, Fetches, Kept, SetsUp, Runs, StoresOrder, PutsReport};
 ghost use Rattle.rsim_top.specs.Refusals.{write_refusal_of};
 
 use crate::order_file::store_order;
 use crate::processor::Processor;
 use crate::refusal::{File, Refusal};
 use crate::report_text::report_text;
-use crate::words::Command;
+use command_words::{BadWords, Executable, RunWords, read_run};
 use elf64_load::{ElfFault, load};
-use rsim_base::NoMemory;
+use machine_config::{Config, ConfigFault, fits, read as read_config};
+use rsim_base::{Model, NoMemory};
 use rsim_io::{FetchFault, Shelf, Sink, StoreFault};
 use std::alloc::Global;
 
-// The longest executable, in bytes.
+// The longest configuration and the longest executable, in bytes.
+const MAX_CONFIG: u64 = 65_536;
+
 const MAX_EXE: u64 = 16_777_216;
 
 /// What a run came to: the simulated cycles, and the steps that all processors retired.
@@ -26,13 +30,16 @@ pub struct Reported {
     pub retired: u64,
 }
 
-/// Does all that `rsim EXE CYCLES ORDER` does, where `words` are the words after the program's name:
-/// runs the executable for at most CYCLES cycles, writes the order of its memory accesses to the file
-/// ORDER of the shelf, and its report to `out`.
+/// Does all that `rsim EXE CONFIG CYCLES ORDER` does, where `words` are the words after the program's
+/// name: runs the executable with the settings of the configuration for at most CYCLES cycles, writes the
+/// order of its memory accesses to the file ORDER of the shelf, and its report to `out`.
 ///
 /// # Errors
-/// The first refusal, in the order of the variants of `Refusal`. Only the words, the executable's
-/// length and its faults, and failures of the shelf or the sink lead to one, beside want of memory.
+/// The first refusal of these steps: the words are read; the configuration and the executable are
+/// fetched; the configuration is read; the length of the run is looked at; the executable is loaded;
+/// the order is written; the report is written. Memory may be short at each of them. Up to the sixth
+/// step nothing has been written; where the order was not written whole, its file has a prefix of it, and where
+/// the report was not, the order stands and `out` has a prefix of the report.
 pub fn run_command<S: Shelf, K: Sink>(
     alloc: Global,
     words: &Vec<String>,
@@ -40,11 +47,15 @@ pub fn run_command<S: Shelf, K: Sink>(
     out: &mut K,
 ) -> Result<Reported, Refusal>
     ensures answer { Answers (map string_bytes words.now.items)
-        (outside S.holds S.faults K.written K.faults shelf.old out.old)
-        (outside S.holds S.faults K.written K.faults shelf.new out.new)
+        (outside (shelf_of S.holds S.faults S.sure shelf.old) (sink_of K.written K.faults K.sure out.old))
+        (outside (shelf_of S.holds S.faults S.sure shelf.new) (sink_of K.written K.faults K.sure out.new))
         result }
     ensures exactly { IsExact (map string_bytes words.now.items)
-        (outside S.holds S.faults K.written K.faults shelf.old out.old)
+        (outside (shelf_of S.holds S.faults S.sure shelf.old) (sink_of K.written K.faults K.sure out.old))
+        result }
+    ensures complete { IsComplete (map string_bytes words.now.items)
+        (outside (shelf_of S.holds S.faults S.sure shelf.old) (sink_of K.written K.faults K.sure out.old))
+        (outside (shelf_of S.holds S.faults S.sure shelf.new) (sink_of K.written K.faults K.sure out.new))
         result }
     ensures shelf_faults { S.faults shelf.old ≤ S.faults shelf.new }
     ensures sink_faults { K.faults out.old ≤ K.faults out.new }
@@ -60,19 +71,43 @@ fn run_words<S: Shelf, K: Sink>(
     out: &mut K,
 ) -> Result<Reported, Refusal>
     ensures answer { Answers (map string_bytes words.now.items)
-        (outside S.holds S.faults K.written K.faults shelf.old out.old)
-        (outside S.holds S.faults K.written K.faults shelf.new out.new)
+        (outside (shelf_of S.holds S.faults S.sure shelf.old) (sink_of K.written K.faults K.sure out.old))
+        (outside (shelf_of S.holds S.faults S.sure shelf.new) (sink_of K.written K.faults K.sure out.new))
         result }
     ensures shelf_faults { S.faults shelf.old ≤ S.faults shelf.new }
     ensures sink_faults { K.faults out.old ≤ K.faults out.new }
 {
-    let command = match Command::read(words) {
-        Ok(command) => command,
-        Err(fault) => return Err(Refusal::Words(fault)),
+    let want = match read_run(alloc, words) {
+        Ok(want) => want,
+        Err(BadWords::Fault(fault)) => return Err(Refusal::Words(fault)),
+        Err(BadWords::Memory) => return Err(Refusal::Memory),
     };
-    let file = fetch_executable(alloc, command.exe, shelf)?;
-    let processor = run_file(alloc, &file, command.cycles)?;
-    write_order(alloc, command.order, &processor, shelf)?;
+    match want.executable {
+        Executable::File(exe) => run_executable(alloc, &want, exe, shelf, out),
+        Executable::Generated(_) => Err(Refusal::Unbuilt),
+    }
+}
+
+// What is asked for, with the executable of this name.
+fn run_executable<S: Shelf, K: Sink>(
+    alloc: Global,
+    want: &RunWords,
+    exe: &str,
+    shelf: &mut S,
+    out: &mut K,
+) -> Result<Reported, Refusal>
+    ensures answer { AnswersFile
+        (outside (shelf_of S.holds S.faults S.sure shelf.old) (sink_of K.written K.faults K.sure out.old))
+        (outside (shelf_of S.holds S.faults S.sure shelf.new) (sink_of K.written K.faults K.sure out.new))
+        (asked_by want.now) exe.now result }
+    ensures shelf_faults { S.faults shelf.old ≤ S.faults shelf.new }
+    ensures sink_faults { K.faults out.old ≤ K.faults out.new }
+{
+    let text = fetch(alloc, File::Config, MAX_CONFIG, want.config, shelf)?;
+    let file = fetch(alloc, File::Exe, MAX_EXE, exe, shelf)?;
+    let config = set_up(alloc, &text, want.cycles)?;
+    let processor = run_file(alloc, &file, want.cycles)?;
+    write_order(alloc, want.order, config.model, &processor, shelf)?;
     write_report(alloc, &processor, out)?;
     Ok(Reported {
         cycles: processor.retired,
@@ -80,26 +115,51 @@ fn run_words<S: Shelf, K: Sink>(
     })
 }
 
-// The bytes of the executable.
-fn fetch_executable<S: Shelf>(alloc: Global, name: &str, shelf: &mut S) -> Result<Vec<u8>, Refusal>
-    ensures fetched { IfOk result (λ file. IsExecutable (S.holds shelf.old) name.now file.items) }
-    ensures refused { IfErr result (FailsToFetch (S.holds shelf.old) name.now (S.faults shelf.old) (S.faults shelf.new)) }
+// The bytes of a file, which may have so many.
+fn fetch<S: Shelf>(
+    alloc: Global,
+    which: File,
+    limit: u64,
+    name: &str,
+    shelf: &mut S,
+) -> Result<Vec<u8>, Refusal>
+    requires limit { limit < 2 ^ 64 - 1 }
+    ensures fetched { Fetches (shelf_of S.holds S.faults S.sure shelf.old) (shelf_of S.holds S.faults S.sure shelf.new) which limit name.now result }
+    ensures short { IfOk result (λ bytes. length bytes.items ≤ limit) }
     ensures files { S.holds shelf.new ≡ S.holds shelf.old }
-    ensures faults { S.faults shelf.old ≤ S.faults shelf.new }
+    ensures kept { Kept (shelf_of S.holds S.faults S.sure shelf.old) (shelf_of S.holds S.faults S.sure shelf.new) }
 {
-    let mut file = Vec::new(alloc);
-    match shelf.fetch(name, &mut file, MAX_EXE) {
-        Ok(()) => Ok(file),
-        Err(FetchFault::Failed) => Err(Refusal::Read(File::Exe)),
-        Err(FetchFault::TooLarge) => Err(Refusal::Big(File::Exe)),
+    let mut bytes = Vec::new(alloc);
+    match shelf.fetch(name, &mut bytes, limit) {
+        Ok(()) => Ok(bytes),
+        Err(FetchFault::Failed) => Err(Refusal::Read(which)),
+        Err(FetchFault::TooLarge) => Err(Refusal::Big(which)),
         Err(FetchFault::Memory) => Err(Refusal::Memory),
     }
 }
 
+// The settings of a text, for a run of so many cycles.
+fn set_up(alloc: Global, text: &[u8], cycles: u32) -> Result<Config, Refusal>
+    requires { length text.now ≤ 65536 }
+    ensures { SetsUp cycles text.now result }
+{
+    let config = match read_config(alloc, text) {
+        Ok(config) => config,
+        Err(ConfigFault::Memory) => return Err(Refusal::Memory),
+        Err(fault) => return Err(Refusal::Config(fault)),
+    };
+    if !fits(&config, cycles) {
+        return Err(Refusal::TooLong);
+    }
+    if config.processors != 1 {
+        return Err(Refusal::Unbuilt);
+    }
+    Ok(config)
+}
+
 // The processor after it has run the file's image.
 fn run_file(alloc: Global, file: &[u8], cycles: u32) -> Result<Processor, Refusal>
-    ensures run { IfOk result (HasRunFile file.now cycles) }
-    ensures refused { IfErr result (FailsToRun file.now) }
+    ensures { Runs cycles file.now result }
 {
     let image = match load(alloc, file) {
         Ok(image) => image,
@@ -116,15 +176,22 @@ fn run_file(alloc: Global, file: &[u8], cycles: u32) -> Result<Processor, Refusa
 fn write_order<S: Shelf>(
     alloc: Global,
     name: &str,
+    model: Model,
     processor: &Processor,
     shelf: &mut S,
 ) -> Result<(), Refusal>
-    ensures written { OnOk result (HasFile name.now (order_of processor.now.order.items processor.now.retired) (S.holds shelf.old) (S.holds shelf.new)) }
-    ensures part { OnErr result (HasPrefixOfFile name.now (order_of processor.now.order.items processor.now.retired) (S.holds shelf.old) (S.holds shelf.new)) }
-    ensures refused { IfErr result (FailsToOrder (S.faults shelf.old) (S.faults shelf.new)) }
-    ensures faults { S.faults shelf.old ≤ S.faults shelf.new }
+    ensures stored { StoresOrder (shelf_of S.holds S.faults S.sure shelf.old) (shelf_of S.holds S.faults S.sure shelf.new)
+        name.now (order_of model processor.now.order.items processor.now.retired) result }
+    ensures kept { Kept (shelf_of S.holds S.faults S.sure shelf.old) (shelf_of S.holds S.faults S.sure shelf.new) }
 {
-    match store_order(alloc, name, &processor.order, processor.retired, shelf) {
+    match store_order(
+        alloc,
+        name,
+        model,
+        &processor.order,
+        processor.retired,
+        shelf,
+    ) {
         Ok(()) => Ok(()),
         Err(fault) => Err(write_refusal(File::Order, fault)),
     }
@@ -132,9 +199,8 @@ fn write_order<S: Shelf>(
 
 // Writes the report of a run.
 fn write_report<K: Sink>(alloc: Global, processor: &Processor, out: &mut K) -> Result<(), Refusal>
-    ensures written { OnOk result (HasWritten (report_of processor.now.retired processor.now.arch.end processor.now.output.items) (K.written out.old) (K.written out.new)) }
-    ensures part { OnErr result (HasPrefixWritten (report_of processor.now.retired processor.now.arch.end processor.now.output.items) (K.written out.old) (K.written out.new)) }
-    ensures refused { IfErr result (FailsToReport (K.faults out.old) (K.faults out.new)) }
+    ensures put { PutsReport (sink_of K.written K.faults K.sure out.old) (sink_of K.written K.faults K.sure out.new)
+        (report_of processor.now.retired processor.now.arch.end processor.now.output.items) result }
     ensures faults { K.faults out.old ≤ K.faults out.new }
 {
     let Ok(text) = report_text(alloc, processor) else {

@@ -10,9 +10,11 @@ mod report_text;
 #[cfg(test)]
 mod tests;
 #[cfg(test)]
+mod tests_commands;
+#[cfg(test)]
 mod tests_segments;
 mod text;
-mod words;
 
 pub use command::{Reported, run_command};
-pub use refusal::{File, Refusal, WordsFault};
+pub use command_words::WordsFault;
+pub use refusal::{File, Refusal};

@@ -1,8 +1,8 @@
 // The file of an order.
-ghost use Rattle.std.specs.Prelude.{OnOk, OnErr, IsErrOf};
+ghost use Rattle.std.specs.Prelude.{◌≡◌, OnOk, OnErr, IsErrOf, IsTrue};
 ghost use Rattle.rsim_io.specs.Faults.{HasCause};
-ghost use Rattle.rsim_top.specs.Answers.{HasFile, HasPrefixOfFile};
 ghost use Rattle.rsim_top.specs.Machine.{order_of};
+ghost use Rattle.rsim_top.specs.Outside.{HasFile, HasPrefixOfFile};
 
 use order_certificate::{begin, entry, finish};
 use rsim_base::{Access, Model};
@@ -20,17 +20,20 @@ const PIECE: usize = 65_536;
 pub fn store_order<S: Shelf>(
     alloc: Global,
     name: &str,
+    model: Model,
     order: &[Access],
     retired: u32,
     shelf: &mut S,
 ) -> Result<(), StoreFault>
-    ensures stored { OnOk result (HasFile name.now (order_of order.now retired) (S.holds shelf.old) (S.holds shelf.new)) }
-    ensures part { OnErr result (HasPrefixOfFile name.now (order_of order.now retired) (S.holds shelf.old) (S.holds shelf.new)) }
+    ensures stored { OnOk result (HasFile name.now (order_of model order.now retired) (S.holds shelf.old) (S.holds shelf.new)) }
+    ensures part { OnErr result (HasPrefixOfFile name.now (order_of model order.now retired) (S.holds shelf.old) (S.holds shelf.new)) }
     ensures cause { HasCause (IsErrOf result StoreFault.Failed) (S.faults shelf.old) (S.faults shelf.new) }
+    ensures sure { S.sure shelf.new ≡ S.sure shelf.old }
+    ensures sure_to_store { IsTrue (S.sure shelf.old) → IsErrOf result StoreFault.Failed → ⊥ }
 {
     shelf.create(name)?;
     let mut piece = Vec::new(alloc);
-    let Ok(()) = begin(&mut piece, Model::Sc, 1) else {
+    let Ok(()) = begin(&mut piece, model, 1) else {
         return Err(StoreFault::Memory);
     };
     for access in order {

@@ -2,23 +2,16 @@
 ghost use Rattle.std.specs.Prelude.{◌≡◌};
 ghost use Rattle.rsim_top.specs.Refusals.{code_of};
 
+use command_words::WordsFault;
 use elf64_load::ElfFault;
+use machine_config::ConfigFault;
 use thiserror::Error;
-
-/// What is wrong with the words of a command line.
-#[derive(Clone, Copy, Debug, PartialEq, Eq, Error)]
-pub enum WordsFault {
-    /// There are too few or too many, or an option that does not exist.
-    #[error("words")]
-    Shape,
-    /// The bound on the cycles is no number from 1 to 8,000,000.
-    #[error("cycles")]
-    Cycles,
-}
 
 /// A file or stream that a command uses.
 #[derive(Clone, Copy, Debug, PartialEq, Eq, Error)]
 pub enum File {
+    #[error("config")]
+    Config,
     #[error("executable")]
     Exe,
     #[error("order")]
@@ -39,6 +32,16 @@ pub enum Refusal {
     /// A file is longer than its limit.
     #[error("{0} too long")]
     Big(File),
+    /// The configuration has a fault.
+    #[error("config: {0}")]
+    Config(ConfigFault),
+    /// In so many cycles all processors together may retire more than 8,000,000 instructions.
+    #[error("run too long")]
+    TooLong,
+    /// What is asked for is not built yet: an executable that is to be generated, or a machine of several
+    /// processors.
+    #[error("not built")]
+    Unbuilt,
     /// The executable cannot be loaded.
     #[error("executable: {0}")]
     Elf(ElfFault),
@@ -57,6 +60,8 @@ impl Refusal {
     {
         match self {
             Refusal::Words(_) => 2,
+            Refusal::Config(_) | Refusal::Big(File::Config) | Refusal::TooLong | Refusal::Unbuilt =>
+                3,
             Refusal::Elf(_) | Refusal::Big(File::Exe) => 4,
             Refusal::Read(_) | Refusal::Big(_) => 5,
             Refusal::Write(_) => 6,

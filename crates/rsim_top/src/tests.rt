@@ -1,7 +1,6 @@
-// Whole commands over a shelf and a sink in memory. The reports and orders are written by hand from
-// the descriptions of their texts.
-use crate::{File, Refusal, Reported, WordsFault, run_command};
-use elf64_load::ElfFault;
+// Programs run by whole commands over a shelf and a sink in memory. The reports and orders are written by
+// hand from the descriptions of their texts.
+use crate::{Reported, run_command};
 use rsim_base::NoMemory;
 use rsim_io::{MemShelf, MemSink};
 use std::alloc::{AllocError, Global};
@@ -22,10 +21,10 @@ const HEADERS: [u8; 96] = [
     0, 0, 0, 0, 0, 0x10, 0, 0, // p_paddr
 ];
 
-const COUNTS: &str =
+pub(crate) const COUNTS: &str =
     "unperformed 0\ncount fetched 0\ncount dispatched 0\ncount issued 0\ncount bound 0\ncount forwarded 0\ncount settled 0\ncount performed 0\ncount squashed 0\ncount mispredicts 0\ncount rollbacks 0\ncount wishes 0\ncount lost 0\nend\n";
 
-fn executable(alloc: Global, words: &[u32]) -> Result<Vec<u8>, AllocError> {
+pub(crate) fn executable(alloc: Global, words: &[u32]) -> Result<Vec<u8>, AllocError> {
     let size = (words.len() as u64).wrapping_mul(4).to_be_bytes();
     let mut file = Vec::from_slice(alloc, &HEADERS)?;
     for part in [size, size, 8u64.to_be_bytes()] {
@@ -37,7 +36,7 @@ fn executable(alloc: Global, words: &[u32]) -> Result<Vec<u8>, AllocError> {
     Ok(file)
 }
 
-fn words(alloc: Global, all: &[&str]) -> Result<Vec<String>, AllocError> {
+pub(crate) fn words(alloc: Global, all: &[&str]) -> Result<Vec<String>, AllocError> {
     let mut words = Vec::new(alloc);
     for word in all {
         words.push(String::from_str(alloc, word)?)?;
@@ -45,19 +44,20 @@ fn words(alloc: Global, all: &[&str]) -> Result<Vec<String>, AllocError> {
     Ok(words)
 }
 
-// A shelf that holds an executable under the name `exe`.
-fn shelf_with(alloc: Global, file: &[u8], fails: &[u32]) -> Result<MemShelf, NoMemory> {
+// A shelf that holds an executable under the name `exe`, and an empty configuration under `config`.
+pub(crate) fn shelf_with(alloc: Global, file: &[u8], fails: &[u32]) -> Result<MemShelf, NoMemory> {
     let fails = Vec::from_slice(alloc, fails).map_err(|_| NoMemory)?;
     let mut shelf = MemShelf::make(alloc, fails)?;
     shelf.set("exe", file)?;
+    shelf.set("config", b"")?;
     Ok(shelf)
 }
 
-fn sink(alloc: Global, fails: &[u32]) -> Result<MemSink, NoMemory> {
+pub(crate) fn sink(alloc: Global, fails: &[u32]) -> Result<MemSink, NoMemory> {
     MemSink::make(alloc, Vec::from_slice(alloc, fails).map_err(|_| NoMemory)?)
 }
 
-fn holds(shelf: &MemShelf, name: &str, bytes: &[u8]) -> bool {
+pub(crate) fn holds(shelf: &MemShelf, name: &str, bytes: &[u8]) -> bool {
     match shelf.file(name) {
         Some(file) => file == bytes,
         None => false,
@@ -70,7 +70,7 @@ fn a_program_prints_a_number_and_exits(rt: HostRuntime) -> Result<(), Fail> {
     let file = executable(alloc, &[0x9010202A, 0x91D02012, 0x91D02010])?;
     let mut shelf = shelf_with(alloc, &file, &[])?;
     let mut out = sink(alloc, &[])?;
-    let words = words(alloc, &["exe", "10000", "order"])?;
+    let words = words(alloc, &["exe", "config", "10000", "order"])?;
     let answer = run_command(alloc, &words, &mut shelf, &mut out);
     assert!(rt;
         answer
@@ -117,13 +117,14 @@ fn runs_as(
     accesses: &str,
 ) -> Result<bool, Fail> {
     let file = executable(alloc, code)?;
-    file_runs_as(alloc, &file, cycles, steps, line, output, accesses)
+    file_runs_as(alloc, &file, "sc", cycles, steps, line, output, accesses)
 }
 
-/// The same of an executable.
+/// The same of an executable under a consistency model.
 pub(crate) fn file_runs_as(
     alloc: Global,
     file: &[u8],
+    model: &str,
     cycles: &str,
     steps: u32,
     line: &str,
@@ -131,14 +132,17 @@ pub(crate) fn file_runs_as(
     accesses: &str,
 ) -> Result<bool, Fail> {
     let mut shelf = shelf_with(alloc, file, &[])?;
+    shelf.set("config", format!(in alloc; "model {model}")?.as_bytes())?;
     let mut out = sink(alloc, &[])?;
-    let words = words(alloc, &["exe", cycles, "order"])?;
+    let words = words(alloc, &["exe", "config", cycles, "order"])?;
     run_command(alloc, &words, &mut shelf, &mut out)?;
     let length = output.len();
     let report = format!(in alloc;
         "rsim report 1\ncycles {steps}\nprocessor 0 retired {steps} {line}\noutput 0 {length}\n{output}\n{COUNTS}"
     )?;
-    let order = format!(in alloc; "rsim order 1\nmodel sc\nprocessors 1\n{accesses}end {steps}\n")?;
+    let order = format!(in alloc;
+        "rsim order 1\nmodel {model}\nprocessors 1\n{accesses}end {steps}\n"
+    )?;
     Ok(out.bytes() == report.as_bytes() && holds(&shelf, "order", order.as_bytes()))
 }
 
@@ -475,7 +479,7 @@ fn windows_are_spilled_and_filled(rt: HostRuntime) -> Result<(), Fail> {
     code.push(0x91D02010)?;
     let mut shelf = shelf_with(alloc, &executable(alloc, &code)?, &[])?;
     let mut out = sink(alloc, &[])?;
-    let words = words(alloc, &["exe", "10000", "order"])?;
+    let words = words(alloc, &["exe", "config", "10000", "order"])?;
     run_command(alloc, &words, &mut shelf, &mut out)?;
     let report = format!(in alloc;
         "rsim report 1\ncycles 81\nprocessor 0 retired 81 exit 0\noutput 0 0\n\n{COUNTS}"
@@ -532,7 +536,7 @@ fn calls_go_deeper_than_the_windows(rt: HostRuntime) -> Result<(), Fail> {
     ];
     let mut shelf = shelf_with(alloc, &executable(alloc, &code)?, &[])?;
     let mut out = sink(alloc, &[])?;
-    let words = words(alloc, &["exe", "10000", "order"])?;
+    let words = words(alloc, &["exe", "config", "10000", "order"])?;
     run_command(alloc, &words, &mut shelf, &mut out)?;
     // 5 steps of the start, 9 of each of 20 calls, 5 of the last, and 15 spills and fills of 16
     let report = format!(in alloc;
@@ -596,200 +600,6 @@ fn conditions_read_a_register_as_a_signed_number(rt: HostRuntime) -> Result<(), 
                 "{branch:x} of {set:x}"
             );
         }
-    }
-    Ok(())
-}
-
-// What a command over a good executable answers to these words.
-fn answer_to(alloc: Global, all: &[&str]) -> Result<Result<Reported, Refusal>, Fail> {
-    let mut shelf = shelf_with(alloc, &executable(alloc, &[0x91D02010])?, &[])?;
-    let mut out = sink(alloc, &[])?;
-    let words = words(alloc, all)?;
-    let answer = run_command(alloc, &words, &mut shelf, &mut out);
-    Ok(answer)
-}
-
-#[test]
-fn words_are_three_names_and_a_bound(rt: HostRuntime) -> Result<(), Fail> {
-    let alloc = rt.alloc();
-    let shape: [&[&str]; 6] = [
-        &[],
-        &["exe", "5"],
-        &["exe", "5", "order", "more"],
-        &["--help"],
-        &["-x", "5", "order"],
-        &["exe", "5", "--"],
-    ];
-    for all in shape {
-        assert!(rt;
-            answer_to(alloc, all)? == Err(Refusal::Words(WordsFault::Shape)),
-            "{all:?}"
-        );
-    }
-    for cycles in [
-        "0",
-        "+5",
-        "8000001",
-        "",
-        "12345678901",
-        "5x",
-        " 5",
-        "00000000000",
-    ] {
-        let answer = answer_to(alloc, &["exe", cycles, "order"])?;
-        assert!(rt;
-            answer == Err(Refusal::Words(WordsFault::Cycles)),
-            "{cycles}"
-        );
-    }
-    for cycles in ["1", "0000000005", "8000000"] {
-        let answer = answer_to(alloc, &["exe", cycles, "order"])?;
-        assert!(rt;
-            answer
-                == Ok(Reported {
-                    cycles: 1,
-                    retired: 1
-                }),
-            "{cycles}"
-        );
-    }
-    // a lone dash and the empty word are names
-    assert!(rt; answer_to(alloc, &["-", "5", "order"])? == Err(Refusal::Read(File::Exe)));
-    assert!(rt; answer_to(alloc, &["", "5", "order"])? == Err(Refusal::Read(File::Exe)));
-    assert!(rt;
-        answer_to(alloc, &["exe", "5", "-"])?
-            == Ok(Reported {
-                cycles: 1,
-                retired: 1
-            })
-    );
-    Ok(())
-}
-
-#[test]
-fn a_file_that_is_no_executable_is_refused(rt: HostRuntime) -> Result<(), Fail> {
-    let alloc = rt.alloc();
-    let words = words(alloc, &["exe", "5", "order"])?;
-    let cases = [
-        (63, Refusal::Elf(ElfFault::Truncated(63))),
-        (16_777_216, Refusal::Elf(ElfFault::NotElf)),
-        (16_777_217, Refusal::Big(File::Exe)),
-    ];
-    for (length, refusal) in cases {
-        let file = vec![in alloc; 0u8; length]?;
-        let mut shelf = shelf_with(alloc, &file, &[])?;
-        let mut out = sink(alloc, &[])?;
-        let answer = run_command(alloc, &words, &mut shelf, &mut out);
-        assert!(rt; answer == Err(refusal), "{length} bytes");
-        assert!(rt; shelf.file("order").is_none());
-        assert!(rt; out.bytes().is_empty());
-    }
-    Ok(())
-}
-
-#[test]
-fn failures_of_the_outside_are_told_and_leave_a_prefix(rt: HostRuntime) -> Result<(), Fail> {
-    let alloc = rt.alloc();
-    let file = executable(alloc, &[0x91D02010])?;
-    let words = words(alloc, &["exe", "5", "order"])?;
-    let order = b"rsim order 1\nmodel sc\nprocessors 1\nend 1\n";
-    // the calls of the shelf that fail, the sink's, the answer, and what is left of the order
-    let cases: [(&[u32], &[u32], Refusal, Option<&[u8]>); 4] = [
-        (&[0], &[], Refusal::Read(File::Exe), None),
-        (&[1], &[], Refusal::Write(File::Order), None),
-        (&[2], &[], Refusal::Write(File::Order), Some(b"")),
-        (&[], &[0], Refusal::Write(File::Report), Some(order)),
-    ];
-    for (shelf_fails, sink_fails, refusal, left) in cases {
-        let mut shelf = shelf_with(alloc, &file, shelf_fails)?;
-        let mut out = sink(alloc, sink_fails)?;
-        let answer = run_command(alloc, &words, &mut shelf, &mut out);
-        assert!(rt; answer == Err(refusal), "{refusal}");
-        assert!(rt; shelf.file("order") == left, "{refusal}");
-        assert!(rt; out.bytes().is_empty(), "{refusal}");
-        assert!(rt; holds(&shelf, "exe", &file), "{refusal}");
-    }
-    Ok(())
-}
-
-#[test]
-fn an_order_in_pieces_is_left_in_part(rt: HostRuntime) -> Result<(), Fail> {
-    let alloc = rt.alloc();
-    // 4,000 times round a loop with a store: some 190,000 bytes of lines
-    let file = executable(alloc, &[0x151FC000, 0xD272A000, 0x02F83FFF, 0x01000000])?;
-    let words = words(alloc, &["exe", "12001", "order"])?;
-    let mut whole = shelf_with(alloc, &file, &[])?;
-    let mut out = sink(alloc, &[])?;
-    let answer = run_command(alloc, &words, &mut whole, &mut out);
-    assert!(rt; answer.is_ok());
-    let order = whole.file("order").unwrap_or_default();
-    let first =
-        b"rsim order 1\nmodel sc\nprocessors 1\n0 0 S 8 000000007f000000 - 0000000000000001\n";
-    let last = b"\n0 3999 S 8 000000007f000000 - 0000000000000001\nend 12001\n";
-    assert!(rt; order.starts_with(first) && order.ends_with(last));
-    let mut left = 0;
-    for call in [2, 3, 4] {
-        let mut shelf = shelf_with(alloc, &file, &[call])?;
-        let mut out = sink(alloc, &[])?;
-        let answer = run_command(alloc, &words, &mut shelf, &mut out);
-        assert!(rt; answer == Err(Refusal::Write(File::Order)), "call {call}");
-        let part = shelf.file("order").unwrap_or_default();
-        assert!(rt; order.starts_with(part), "call {call}");
-        assert!(rt;
-            left <= part.len() && part.len() < order.len(),
-            "call {call}"
-        );
-        assert!(rt; out.bytes().is_empty(), "call {call}");
-        left = part.len();
-    }
-    assert!(rt; left > 65_536);
-    Ok(())
-}
-
-#[test]
-fn an_order_may_replace_the_executable(rt: HostRuntime) -> Result<(), Fail> {
-    let alloc = rt.alloc();
-    let mut shelf = shelf_with(alloc, &executable(alloc, &[0x91D02010])?, &[])?;
-    let mut out = sink(alloc, &[])?;
-    let words = words(alloc, &["exe", "5", "exe"])?;
-    let answer = run_command(alloc, &words, &mut shelf, &mut out);
-    assert!(rt; answer.is_ok());
-    assert!(rt;
-        holds(
-            &shelf,
-            "exe",
-            b"rsim order 1\nmodel sc\nprocessors 1\nend 1\n"
-        )
-    );
-    Ok(())
-}
-
-#[test]
-fn refusals_have_their_texts_and_statuses(rt: HostRuntime) -> Result<(), Fail> {
-    let alloc = rt.alloc();
-    let table = [
-        (Refusal::Words(WordsFault::Shape), "bad words", 2),
-        (Refusal::Words(WordsFault::Cycles), "bad cycles", 2),
-        (Refusal::Read(File::Exe), "cannot read executable", 5),
-        (Refusal::Big(File::Exe), "executable too long", 4),
-        (
-            Refusal::Elf(ElfFault::Truncated(63)),
-            "executable: Truncated 63",
-            4,
-        ),
-        (
-            Refusal::Elf(ElfFault::SharedBlock(0, 1)),
-            "executable: SharedBlock 0 1",
-            4,
-        ),
-        (Refusal::Write(File::Order), "cannot write order", 6),
-        (Refusal::Write(File::Report), "cannot write report", 6),
-        (Refusal::Memory, "no memory", 7),
-    ];
-    for (refusal, text, code) in table {
-        let shown = format!(in alloc; "{refusal}")?;
-        assert_eq!(rt; shown.as_str(), text);
-        assert_eq!(rt; refusal.code(), code, "{text}");
     }
     Ok(())
 }

@@ -59,7 +59,7 @@ fn a_jump_into_data_finds_no_instruction(rt: HostRuntime) -> Result<(), Fail> {
     let alloc = rt.alloc();
     let file = linked(alloc, &[0x0300_0800, 0x81C0_6000, 0x0100_0000], &[])?;
     let line = "trap 008 0000000000200000";
-    assert!(rt; file_runs_as(alloc, &file, "10000", 4, line, "", "")?);
+    assert!(rt; file_runs_as(alloc, &file, "sc", "10000", 4, line, "", "")?);
     Ok(())
 }
 
@@ -79,6 +79,47 @@ fn data_has_its_bytes_and_zeros_behind_them(rt: HostRuntime) -> Result<(), Fail>
         "0 0 L 8 0000000000200008 0000000000000007 -\n0 1 L 8 0000000000200010 0000000000000000 -\n0 2 S 8 0000000000200ff8 - 0000000000000007\n";
     let file = linked(alloc, &code, &[5, 7])?;
     let line = "trap 030 0000000000100018";
-    assert!(rt; file_runs_as(alloc, &file, "10000", 7, line, "7\n", accesses)?);
+    assert!(rt; file_runs_as(alloc, &file, "sc", "10000", 7, line, "7\n", accesses)?);
+    Ok(())
+}
+
+#[test]
+fn accesses_are_in_program_order_under_each_model(rt: HostRuntime) -> Result<(), Fail> {
+    let alloc = rt.alloc();
+    // a byte is stored, and the doubleword in which it stands is loaded
+    let stored = [
+        0x0300_0800, // sethi %hi(0x200000), %g1
+        0x8810_2005, // mov 5, %g4
+        0xC828_6003, // stb %g4, [%g1 + 3]
+        0xD058_6000, // ldx [%g1], %o0
+        0x91D0_2012, // ta 18
+        0x91D0_2010, // ta 16
+    ];
+    let lines = "0 0 S 1 0000000000200003 - 05\n0 1 L 8 0000000000200000 0000000500000000 -\n";
+    // memory has 0 and not 5, so it keeps it: casx [%g1], %g4, %o0
+    let compared = [0x0300_0800, 0x8810_2005, 0xD1F0_5004, 0x91D0_2010];
+    let compared_line = "0 0 A 8 0000000000200000 0000000000000000 0000000000000000\n";
+    for model in ["sc", "pc", "rc"] {
+        let file = linked(alloc, &stored, &[])?;
+        let line = "exit 21474836480";
+        assert!(rt;
+            file_runs_as(
+                alloc,
+                &file,
+                model,
+                "10000",
+                6,
+                line,
+                "21474836480\n",
+                lines
+            )?,
+            "{model}"
+        );
+        let file = linked(alloc, &compared, &[])?;
+        assert!(rt;
+            file_runs_as(alloc, &file, model, "10000", 4, "exit 0", "", compared_line)?,
+            "{model}"
+        );
+    }
     Ok(())
 }
