@@ -1,0 +1,4 @@
+pub mod Caches
+pub mod Layout
+pub mod Sound
+pub mod Ways
