@@ -1,16 +1,16 @@
 -- What the tables of a cache tell, and what each call does to them.
-use Rattle.std.proofs.Common.{◌≡◌, ℕ, zero, suc, ◌+◌, ◌*◌, ◌/◌, ◌%◌, ◌<◌, ◌≤◌, ◌==◌, Bool, true, false, ◌&&◌, cond, List, [], ◌∷◌, ◌++◌, length, get_or, set, All, map, find, reverse, count_by, is_none, Option, Some, None, IfSome, option_map, ◌⊎◌, arith, refl, sym, ap, ◌∙◌, subst, inl, inr, ⊎_elim}
+use Rattle.std.proofs.Common.{◌≡◌, ℕ, zero, suc, ◌+◌, ◌*◌, ◌/◌, ◌%◌, ◌<◌, ◌≤◌, ◌==◌, Bool, true, false, ◌&&◌, cond, List, [], ◌∷◌, length, get_or, set, All, map, find, reverse, count_by, is_none, Option, Some, None, IfSome, option_map, ◌⊎◌, arith, refl, sym, ap, ◌∙◌, inl, inr, ⊎_elim}
 use Rattle.std.specs.Option.{option_or}
 use Rattle.std.proofs.Math.Nat.{div-lt_iff_lt-mul}
 use mathlib.Core.List.{reverse_aux}
-use Rattle.std.proofs.lemmas.List.{length-map, length-set, set-get_or, get_or-map, take-take}
+use Rattle.std.proofs.lemmas.List.{length-set, set-get_or, get_or-map}
 use Rattle.std.proofs.lemmas.List.Elements.{All-same, All-weaker}
 use Rattle.rsim_base.specs.declared.memory.Line.{Line}
 use Rattle.cache_sets.specs.declared.sets.Reserved.{Reserved}
-use Rattle.cache_sets.specs.Ways.{Way, names, has_slot, holds, is_reserved_for, is_free, is_unreserved, reserved_for, held_for, filled_with, emptied, slot_in, reserved_in, room_in, changed_at, touched_in, reserve_in, hold_in, fill_in, drop_in}
+use Rattle.cache_sets.specs.Ways.{Way, names, has_slot, holds, is_reserved_for, is_free, is_unreserved, reserved_for, held_for, filled_with, emptied, room_in, changed_at, touched_in, reserve_in, hold_in, drop_in}
 use Rattle.cache_sets.specs.Caches.{CacheView, slot_count, home_of, set_at, set_of, slot_of, reserved_slot, room_for, told, in_set, touched, with_reserved, with_held, filled, dropped}
-use Rattle.cache_sets.specs.Sound.{IsSound, IsSoundSet, is_slot_of}
-use Rattle.cache_sets.specs.Layout.{number_of, numbers_of, mark_at, way_at, slots_of, sets_by, view_of, IsKept}
+use Rattle.cache_sets.specs.Sound.{is_slot_of}
+use Rattle.cache_sets.specs.Layout.{number_of, mark_at, way_at, slots_of, view_of, IsKept}
 use Rattle.cache_sets.proofs.Counts.{count_by-cons, count_by_found, count_by_both_le}
 use Rattle.cache_sets.proofs.Soundness.{IsSound-touched, IsSound-with_reserved, IsSound-with_held, IsSound-filled, IsSound-dropped, slot_once}
 use Rattle.cache_sets.proofs.Keeping.{rows_end, ranged, count_by-map, slot_range, found_is_there, slot_is_there, length-sets_by, set_by, mark_at-set, view_of-marked, view_of-put_first, length-put_first, put_first, Shows, shows, in_set-at, in_set-in_set, home_within}
@@ -58,7 +58,7 @@ map-reverse_aux : {X Y : Type 0} (f : X → Y) (xs ys : List X) → map f (rever
 map-reverse_aux f [] ys = refl
 map-reverse_aux f (x ∷ xs) ys = map-reverse_aux f xs (x ∷ ys)
 
-count_by-reverse_aux : {X : Type 0} (p : X → Bool) (xs ys : List X) → count_by p (reverse_aux xs ys) ≡ count_by p xs + count_by p ys
+pub count_by-reverse_aux : {X : Type 0} (p : X → Bool) (xs ys : List X) → count_by p (reverse_aux xs ys) ≡ count_by p xs + count_by p ys
 count_by-reverse_aux p [] ys = omega arith
 count_by-reverse_aux p (x ∷ xs) ys = omega (arith, count_by-reverse_aux p xs (x ∷ ys), count_by-cons p x xs, count_by-cons p x ys)
 
@@ -85,10 +85,10 @@ pub slots_are : (sets ways line : ℕ) (lines reserved : List (Option Line)) (re
 slots_are sets ways line lines reserved recency kept =
     let slots = slots_of ways recency (home_of line (view_of sets ways lines reserved recency)) in
     sym (ap (map (λ (way : Way). way.slot)) (set_is sets ways line lines reserved recency kept) ∙ slot_of_each lines reserved slots)
-    where
-      slot_of_each : (lines reserved : List (Option Line)) (slots : List ℕ) → map (λ (way : Way). way.slot) (map (way_at lines reserved) slots) ≡ slots
-      slot_of_each lines reserved [] = refl
-      slot_of_each lines reserved (j ∷ js) = ap (λ (ys : List ℕ). j ∷ ys) (slot_of_each lines reserved js)
+  where
+    slot_of_each : (lines reserved : List (Option Line)) (slots : List ℕ) → map (λ (way : Way). way.slot) (map (way_at lines reserved) slots) ≡ slots
+    slot_of_each lines reserved [] = refl
+    slot_of_each lines reserved (j ∷ js) = ap (λ (ys : List ℕ). j ∷ ys) (slot_of_each lines reserved js)
 
 pub slots_fit : (sets ways line : ℕ) (lines reserved : List (Option Line)) (recency : List ℕ) → IsKept sets ways lines reserved recency →
     All (λ slot. slot < sets * ways) (map (λ way. way.slot) (set_of line (view_of sets ways lines reserved recency)))
@@ -106,7 +106,7 @@ slots_fit_in sets ways line count lines reserved recency slots now kept view is 
     All-same (λ slot. slot < count) slots (map (λ (way : Way). way.slot) (set_of line (view_of sets ways lines reserved recency)))
     (is ∙ ap (λ (v : CacheView). map (λ (way : Way). way.slot) (set_of line v)) (sym view))
     (All-weaker (λ slot. slot < sets * ways) (λ slot. slot < count) (λ slot below. omega (arith, below, h)) (map (λ (way : Way). way.slot) (set_of line (view_of sets ways lines reserved recency)))
-      (slots_fit sets ways line lines reserved recency kept))
+    (slots_fit sets ways line lines reserved recency kept))
 
 -- no slot of a set stands twice
 pub slots_once : (sets ways n slot : ℕ) (lines reserved : List (Option Line)) (recency : List ℕ) → IsKept sets ways lines reserved recency → n < sets →
@@ -137,8 +137,8 @@ slot_told sets ways line lines reserved recency q p h kept =
     let way = way_at lines reserved in
     let slots = slots_of ways recency (home_of line (view_of sets ways lines reserved recency)) in
     sym (ap (λ (members : List Way). option_map (λ w. w.slot) (find q members)) (set_is sets ways line lines reserved recency kept)
-      ∙ (ap (λ (o : Option Way). option_map (λ w. w.slot) o) (find-ways way q p slots h)
-      ∙ (option_map-map (λ w. w.slot) way (find p slots) ∙ option_map-id (λ j. j) (find p slots) (λ _. refl))))
+    ∙ (ap (λ (o : Option Way). option_map (λ w. w.slot) o) (find-ways way q p slots h)
+    ∙ (option_map-map (λ w. w.slot) way (find p slots) ∙ option_map-id (λ j. j) (find p slots) (λ _. refl))))
 
 pub slot_of_tables : (sets ways line : ℕ) (lines reserved : List (Option Line)) (recency : List ℕ) → IsKept sets ways lines reserved recency →
     find (λ j. names line (mark_at lines j)) (map (λ way. way.slot) (set_of line (view_of sets ways lines reserved recency))) ≡ slot_of line (view_of sets ways lines reserved recency)
@@ -277,10 +277,10 @@ pub named_there : (sets ways line slot : ℕ) (lines reserved : List (Option Lin
 named_there sets ways line slot lines reserved recency p kept is =
     let cache = view_of sets ways lines reserved recency in
     found_is_there p slot (kept.sound.each (home_of line cache) (home_inside sets ways line lines reserved recency kept)) is
-    where
-      home_inside : (sets ways line : ℕ) (lines reserved : List (Option Line)) (recency : List ℕ) → IsKept sets ways lines reserved recency →
-          home_of line (view_of sets ways lines reserved recency) < length (view_of sets ways lines reserved recency).sets
-      home_inside sets ways line lines reserved recency kept = omega (arith, home_within sets ways line lines reserved recency kept, length-sets_by (way_at lines reserved) sets ways recency)
+  where
+    home_inside : (sets ways line : ℕ) (lines reserved : List (Option Line)) (recency : List ℕ) → IsKept sets ways lines reserved recency →
+        home_of line (view_of sets ways lines reserved recency) < length (view_of sets ways lines reserved recency).sets
+    home_inside sets ways line lines reserved recency kept = omega (arith, home_within sets ways line lines reserved recency kept, length-sets_by (way_at lines reserved) sets ways recency)
 
 pub room_within : (sets ways line slot : ℕ) (lines reserved : List (Option Line)) (recency : List ℕ) → IsKept sets ways lines reserved recency →
     option_map (λ way. way.slot) (room_for line (view_of sets ways lines reserved recency)) ≡ Some slot → slot < sets * ways
@@ -305,8 +305,8 @@ Shows-with_reserved sets ways slot line lines reserved recency kept absent unres
     shows sets ways (set lines slot None) (set reserved slot (Some line)) recency (with_reserved line.0 cache) kept.small
     (length-set lines slot None ∙ kept.lines_count) (length-set reserved slot (Some line) ∙ kept.reserved_count) kept.recency_count
     (view_of-marked sets ways n slot lines (set lines slot None) reserved (set reserved slot (Some line)) recency (reserved_for line.0) kept.sound h there
-      (λ j. way_at-set_both lines reserved slot j None (Some line) (omega (arith, within, kept.lines_count)) (omega (arith, within, kept.reserved_count)))
-      ∙ in_set-at n (changed_at (Some slot) (reserved_for line.0)) (reserve_in line.0) cache (at_slot (option_map (λ way. way.slot) (room_for line.0 cache)) slot (reserved_for line.0) (set_of line.0 cache) is))
+    (λ j. way_at-set_both lines reserved slot j None (Some line) (omega (arith, within, kept.lines_count)) (omega (arith, within, kept.reserved_count)))
+    ∙ in_set-at n (changed_at (Some slot) (reserved_for line.0)) (reserve_in line.0) cache (at_slot (option_map (λ way. way.slot) (room_for line.0 cache)) slot (reserved_for line.0) (set_of line.0 cache) is))
     (IsSound-with_reserved line.0 cache absent unreserved kept.sound)
 
 pub Shows-with_held : (sets ways slot : ℕ) (line : Line) (lines reserved : List (Option Line)) (recency : List ℕ) → IsKept sets ways lines reserved recency →
@@ -321,10 +321,10 @@ Shows-with_held sets ways slot line lines reserved recency kept is =
     shows sets ways lines (set reserved slot (Some line)) recency (with_held line.0 cache) kept.small
     kept.lines_count (length-set reserved slot (Some line) ∙ kept.reserved_count) kept.recency_count
     (view_of-marked sets ways n slot lines lines reserved (set reserved slot (Some line)) recency (held_for line.0) kept.sound h there
-      (λ j.
-        ap (λ (r : Option ℕ). let w : Way = record { slot = j; line = mark_at lines j; reserved = r } in w) (mark_at-set reserved slot j (Some line) (omega (arith, within, kept.reserved_count)))
-        ∙ marked_reserved (j == slot) j (mark_at lines j) (mark_at reserved j) (Some line.0))
-      ∙ in_set-at n (changed_at (Some slot) (held_for line.0)) (hold_in line.0) cache (at_slot (slot_of line.0 cache) slot (held_for line.0) (set_of line.0 cache) is))
+    (λ j.
+    ap (λ (r : Option ℕ). let w : Way = record { slot = j; line = mark_at lines j; reserved = r } in w) (mark_at-set reserved slot j (Some line) (omega (arith, within, kept.reserved_count)))
+    ∙ marked_reserved (j == slot) j (mark_at lines j) (mark_at reserved j) (Some line.0))
+    ∙ in_set-at n (changed_at (Some slot) (held_for line.0)) (hold_in line.0) cache (at_slot (slot_of line.0 cache) slot (held_for line.0) (set_of line.0 cache) is))
     (IsSound-with_held line.0 cache kept.sound)
 
 pub Shows-dropped : (sets ways slot : ℕ) (line : Line) (lines reserved : List (Option Line)) (recency : List ℕ) → IsKept sets ways lines reserved recency →
@@ -339,10 +339,10 @@ Shows-dropped sets ways slot line lines reserved recency kept is =
     shows sets ways (set lines slot None) reserved recency (dropped line.0 cache) kept.small
     (length-set lines slot None ∙ kept.lines_count) kept.reserved_count kept.recency_count
     (view_of-marked sets ways n slot lines (set lines slot None) reserved reserved recency emptied kept.sound h there
-      (λ j.
-        ap (λ (l : Option ℕ). let w : Way = record { slot = j; line = l; reserved = mark_at reserved j } in w) (mark_at-set lines slot j None (omega (arith, within, kept.lines_count)))
-        ∙ marked_line (j == slot) j (mark_at lines j) None (mark_at reserved j))
-      ∙ in_set-at n (changed_at (Some slot) emptied) (drop_in line.0) cache (at_slot (slot_of line.0 cache) slot emptied (set_of line.0 cache) is))
+    (λ j.
+    ap (λ (l : Option ℕ). let w : Way = record { slot = j; line = l; reserved = mark_at reserved j } in w) (mark_at-set lines slot j None (omega (arith, within, kept.lines_count)))
+    ∙ marked_line (j == slot) j (mark_at lines j) None (mark_at reserved j))
+    ∙ in_set-at n (changed_at (Some slot) emptied) (drop_in line.0) cache (at_slot (slot_of line.0 cache) slot emptied (set_of line.0 cache) is))
     (IsSound-dropped line.0 cache kept.sound)
 
 pub Shows-filled : (sets ways slot : ℕ) (line : Line) (lines reserved : List (Option Line)) (recency : List ℕ) → IsKept sets ways lines reserved recency →
@@ -358,10 +358,10 @@ Shows-filled sets ways slot line lines reserved recency kept is =
     shows sets ways (set lines slot (Some line)) (set reserved slot None) (put_first ways n slot recency) (filled slot line.0 cache) kept.small
     (length-set lines slot (Some line) ∙ kept.lines_count) (length-set reserved slot None ∙ kept.reserved_count) (length-put_first sets ways n slot recency kept.recency_count h)
     (view_of-put_first sets ways n slot (set lines slot (Some line)) (set reserved slot None) recency kept.recency_count h
-      ∙ (ap (in_set n (touched_in slot))
-        (view_of-marked sets ways n slot lines (set lines slot (Some line)) reserved (set reserved slot None) recency (filled_with line.0) kept.sound h there
-          (λ j. way_at-set_both lines reserved slot j (Some line) None (omega (arith, within, kept.lines_count)) (omega (arith, within, kept.reserved_count))))
-      ∙ in_set-in_set n (touched_in slot) (changed_at (Some slot) (filled_with line.0)) cache inside))
+    ∙ (ap (in_set n (touched_in slot))
+    (view_of-marked sets ways n slot lines (set lines slot (Some line)) reserved (set reserved slot None) recency (filled_with line.0) kept.sound h there
+    (λ j. way_at-set_both lines reserved slot j (Some line) None (omega (arith, within, kept.lines_count)) (omega (arith, within, kept.reserved_count))))
+    ∙ in_set-in_set n (touched_in slot) (changed_at (Some slot) (filled_with line.0)) cache inside))
     (IsSound-filled slot line.0 cache is kept.sound)
 
 pub Shows-touched : (sets ways slot : ℕ) (lines reserved : List (Option Line)) (recency : List ℕ) → IsKept sets ways lines reserved recency → slot / ways < sets →

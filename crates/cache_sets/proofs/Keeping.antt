@@ -1,21 +1,17 @@
 -- What a write to the tables of a cache does to the cache.
-use Rattle.std.proofs.Common.{◌≡◌, ℕ, ◌+◌, ◌-◌, ◌*◌, ◌%◌, ◌/◌, ◌^◌, ◌<◌, ◌≤◌, ◌==◌, Bool, true, false, not, ◌&&◌, cond, List, [], ◌∷◌, ◌++◌, length, get_or, set, take, drop, ext_get_or, map, filter, find, reverse, count_by, All, is_none, Option, Some, None, option_map, arith, refl, sym, ap, ◌∙◌, subst, ⊎_elim, length-append, append_assoc}
-use Rattle.std.specs.Option.{option_or}
-use Rattle.std.specs.List.{range_with_len}
+use Rattle.std.proofs.Common.{◌≡◌, ℕ, ◌+◌, ◌-◌, ◌*◌, ◌^◌, ◌<◌, ◌≤◌, ◌==◌, Bool, true, false, not, cond, List, [], ◌∷◌, ◌++◌, length, get_or, set, take, drop, ext_get_or, map, filter, find, count_by, All, Option, Some, None, option_map, arith, refl, sym, ap, ◌∙◌, subst, ⊎_elim, length-append, append_assoc}
 use Rattle.std.proofs.Math.Nat.{mul-le-mul_left}
-use mathlib.Core.List.{reverse_aux}
-use Rattle.std.proofs.lemmas.Bool.{cases_eq, cases_lt, and_parts, ltb-true, leb-true, eq-eqb, ne_eqb, lt-ltb, le-leb}
-use Rattle.std.proofs.lemmas.List.{length-map, length-set, length-take, length-drop, get_or-set_same, get_or-set_other, map-append, map-set, set-set, take_at, drop_at, take-append-le, drop-take, drop-drop, take-take, drop-append-le, same_lists}
-use Rattle.std.proofs.lemmas.List.Elements.{All-from_get_or, All-get_or, All-head, All-tail, All-weaker}
+use Rattle.std.proofs.lemmas.Bool.{cases_eq, cases_lt, and_parts, ltb-true, leb-true, eq-eqb, ne_eqb}
+use Rattle.std.proofs.lemmas.List.{length-map, length-set, length-take, length-drop, get_or-set_same, get_or-set_other, map-append, map-set, set-set, take_at, drop_at, take-append-le, drop-take, drop-drop, take-take}
+use Rattle.std.proofs.lemmas.List.Elements.{All-from_get_or, All-head, All-tail, All-weaker}
 use Rattle.std.proofs.lemmas.List.Filters.{length-filter_both}
 use Rattle.std.proofs.lemmas.List.FromFn.{length-map-range_with_len, get_or-map-range_with_len}
 use Rattle.rsim_base.specs.declared.memory.Line.{Line}
-use Rattle.cache_sets.specs.Ways.{Way, names, has_slot, holds, is_reserved_for, is_free, is_unreserved, reserved_for, held_for, filled_with, emptied, slot_in, reserved_in, room_in, changed_at, touched_in, reserve_in, hold_in, fill_in, drop_in}
-use Rattle.cache_sets.specs.Caches.{CacheView, slot_count, home_of, set_at, set_of, slot_of, reserved_slot, room_for, in_set, touched, with_reserved, with_held, filled, dropped}
+use Rattle.cache_sets.specs.Ways.{Way, has_slot, changed_at, touched_in}
+use Rattle.cache_sets.specs.Caches.{CacheView, home_of, set_at, in_set}
 use Rattle.cache_sets.specs.Sound.{IsSound, IsSoundSet, is_slot_of}
 use Rattle.cache_sets.specs.Layout.{number_of, numbers_of, mark_at, way_at, slots_of, sets_by, slot_first, view_of, IsKept}
-use Rattle.cache_sets.proofs.Counts.{one_if, count_by-cons, count_by_at, count_by_found, count_by_both_le, count_by_le}
-use Rattle.cache_sets.proofs.Soundness.{IsSound-touched, IsSound-with_reserved, IsSound-with_held, IsSound-filled, IsSound-dropped, slot_once}
+use Rattle.cache_sets.proofs.Counts.{one_if, count_by-cons, count_by_at, count_by_found, count_by_both_le}
 
 -- ---- lists
 
@@ -39,14 +35,14 @@ slot_range ways n slot e =
     (leb-true (n * ways) slot low, ltb-true slot (n * ways + ways) high)
 
 -- slots of two sets differ
-slots_differ : (ways i n j slot : ℕ) → (i ≡ n → ⊥) → is_slot_of ways i j ≡ true → is_slot_of ways n slot ≡ true → (j == slot) ≡ false
+pub slots_differ : (ways i n j slot : ℕ) → (i ≡ n → ⊥) → is_slot_of ways i j ≡ true → is_slot_of ways n slot ≡ true → (j == slot) ≡ false
 slots_differ ways i n j slot ne in_i in_n =
     let (low, high) = slot_range ways i j in_i in
     let (low', high') = slot_range ways n slot in_n in
     ne_eqb j slot (λ e. ⊎_elim
-      (λ below. omega (arith, e, high, low', rows_end i n ways below))
-      (λ above. let strict : n < i = omega (arith, above, ne) in omega (arith, e, low, high', rows_end n i ways strict))
-      (cases_lt i n))
+    (λ below. omega (arith, e, high, low', rows_end i n ways below))
+    (λ above. let strict : n < i = omega (arith, above, ne) in omega (arith, e, low, high', rows_end n i ways strict))
+    (cases_lt i n))
 
 -- a way counts in its set, so its slot is one of the set's
 one_if_true : (b : Bool) → 1 ≤ one_if b → b ≡ true
@@ -82,13 +78,13 @@ sets_by_changed way way' sets ways n recency recency' change h here others =
     let within : n < length old = omega (arith, same_old, h) in
     ext_get_or [] (sets_by way' sets ways recency') (set old n new) (same_new ∙ (sym same_old ∙ sym (length-set old n new)))
     (λ k below.
-      let inside : k < sets = omega (arith, same_new, below) in
-      set_by way' sets ways k recency' inside
-      ∙ ⊎_elim
-        (λ e. subst (λ (j : ℕ). map way' (slots_of ways recency' j) ≡ get_or (set old n new) j []) (sym e)
-          (here ∙ (ap change (sym (set_by way sets ways n recency h)) ∙ sym (get_or-set_same old n new [] within))))
-        (λ ne. others k inside ne ∙ (sym (set_by way sets ways k recency inside) ∙ sym (get_or-set_other old n k new [] ne)))
-        (cases_eq k n))
+    let inside : k < sets = omega (arith, same_new, below) in
+    set_by way' sets ways k recency' inside
+    ∙ ⊎_elim
+    (λ e. subst (λ (j : ℕ). map way' (slots_of ways recency' j) ≡ get_or (set old n new) j []) (sym e)
+    (here ∙ (ap change (sym (set_by way sets ways n recency h)) ∙ sym (get_or-set_same old n new [] within))))
+    (λ ne. others k inside ne ∙ (sym (set_by way sets ways k recency inside) ∙ sym (get_or-set_other old n k new [] ne)))
+    (cases_eq k n))
 
 -- ---- a way is marked
 
@@ -100,10 +96,10 @@ mark_at-set marks slot j mark h =
     let written : numbers_of (set marks slot mark) ≡ set numbers slot (number_of mark) = map-set number_of marks slot mark in
     ap (λ ns. get_or ns j None) written
     ∙ ⊎_elim
-      (λ e. subst (λ (k : ℕ). get_or (set numbers slot (number_of mark)) k None ≡ cond (k == slot) (number_of mark) (get_or numbers k None)) (sym e)
-        (get_or-set_same numbers slot (number_of mark) None within ∙ ap (λ b. cond b (number_of mark) (get_or numbers slot None)) (sym (eq-eqb slot slot refl))))
-      (λ ne. get_or-set_other numbers slot j (number_of mark) None ne ∙ ap (λ b. cond b (number_of mark) (get_or numbers j None)) (sym (ne_eqb j slot ne)))
-      (cases_eq j slot)
+    (λ e. subst (λ (k : ℕ). get_or (set numbers slot (number_of mark)) k None ≡ cond (k == slot) (number_of mark) (get_or numbers k None)) (sym e)
+    (get_or-set_same numbers slot (number_of mark) None within ∙ ap (λ b. cond b (number_of mark) (get_or numbers slot None)) (sym (eq-eqb slot slot refl))))
+    (λ ne. get_or-set_other numbers slot j (number_of mark) None ne ∙ ap (λ b. cond b (number_of mark) (get_or numbers j None)) (sym (ne_eqb j slot ne)))
+    (cases_eq j slot)
 
 -- the slots of a set are in its range
 pub ranged : (sets ways : ℕ) (lines reserved : List (Option Line)) (recency : List ℕ) (n : ℕ) →
@@ -114,10 +110,10 @@ ranged sets ways lines reserved recency n sound h =
     let within : n < length (sets_by way sets ways recency) = omega (arith, length-sets_by way sets ways recency) in
     All-from_get_or (λ slot. is_slot_of ways n slot ≡ true) slots 0
     (λ i below.
-      let slot = get_or slots i 0 in
-      let here : count_by (has_slot slot) (get_or (sets_by way sets ways recency) n []) ≡ count_by (λ s. s == slot) slots =
-      ap (count_by (has_slot slot)) (set_by way sets ways n recency h) ∙ count_by-map (has_slot slot) way slots in
-      one_if_true (is_slot_of ways n slot) (omega (arith, count_by_at slots i 0 below, here, (sound.each n within).slots slot)))
+    let slot = get_or slots i 0 in
+    let here : count_by (has_slot slot) (get_or (sets_by way sets ways recency) n []) ≡ count_by (λ s. s == slot) slots =
+    ap (count_by (has_slot slot)) (set_by way sets ways n recency h) ∙ count_by-map (has_slot slot) way slots in
+    one_if_true (is_slot_of ways n slot) (omega (arith, count_by_at slots i 0 below, here, (sound.each n within).slots slot)))
 
 map_changed : (way way' : ℕ → Way) (change : Way → Way) (slot : ℕ) (slots : List ℕ) →
     ((j : ℕ) → way' j ≡ cond (has_slot slot (way j)) (change (way j)) (way j)) → map way' slots ≡ changed_at (Some slot) change (map way slots)
@@ -134,12 +130,12 @@ view_of-marked sets ways n slot lines lines' reserved reserved' recency change s
     let way' = way_at lines' reserved' in
     ap (λ (s : List (List Way)). let v : CacheView = record { ways = ways; sets = s } in v)
     (sets_by_changed way way' sets ways n recency recency (changed_at (Some slot) change) h
-      (map_changed way way' change slot (slots_of ways recency n) is)
-      (λ k inside ne.
-        map_agree way' way (slots_of ways recency k)
-        (All-weaker (λ j. is_slot_of ways k j ≡ true) (λ j. way' j ≡ way j)
-          (λ j in_k. is j ∙ ap (λ b. cond b (change (way j)) (way j)) (slots_differ ways k n j slot ne in_k there))
-          (slots_of ways recency k) (ranged sets ways lines reserved recency k sound inside))))
+    (map_changed way way' change slot (slots_of ways recency n) is)
+    (λ k inside ne.
+    map_agree way' way (slots_of ways recency k)
+    (All-weaker (λ j. is_slot_of ways k j ≡ true) (λ j. way' j ≡ way j)
+    (λ j in_k. is j ∙ ap (λ b. cond b (change (way j)) (way j)) (slots_differ ways k n j slot ne in_k there))
+    (slots_of ways recency k) (ranged sets ways lines reserved recency k sound inside))))
 
 -- ---- a slot is put first
 
@@ -147,10 +143,10 @@ map_filter : (way : ℕ → Way) (slots : List ℕ) (p : ℕ → Bool) (q : Way 
 map_filter way [] p q h = refl
 map_filter way (j ∷ js) p q h =
     map_filter_head (p j) (way j) way (filter p js) j refl ∙ cc (h j, map_filter way js p q h)
-    where
-      map_filter_head : (b : Bool) (w : Way) (way : ℕ → Way) (kept : List ℕ) (j : ℕ) → way j ≡ w → map way (cond b (j ∷ kept) kept) ≡ cond b (w ∷ map way kept) (map way kept)
-      map_filter_head true w way kept j e = ap (λ v. v ∷ map way kept) e
-      map_filter_head false w way kept j e = refl
+  where
+    map_filter_head : (b : Bool) (w : Way) (way : ℕ → Way) (kept : List ℕ) (j : ℕ) → way j ≡ w → map way (cond b (j ∷ kept) kept) ≡ cond b (w ∷ map way kept) (map way kept)
+    map_filter_head true w way kept j e = ap (λ v. v ∷ map way kept) e
+    map_filter_head false w way kept j e = refl
 
 map-slot_first : (lines reserved : List (Option Line)) (slot : ℕ) (slots : List ℕ) →
     map (way_at lines reserved) (slot_first slot slots) ≡ touched_in slot (map (way_at lines reserved) slots)
@@ -192,17 +188,17 @@ slots_of_other sets ways n k recency slots count size h ne =
     let new = put_slots ways n recency slots in
     ⊎_elim
     (λ below.
-      let end : k * ways + ways ≤ n * ways = rows_end k n ways below in
-      let taken : take (k * ways + ways) new ≡ take (k * ways + ways) recency =
-      take_first (take (n * ways) recency) slots (drop (n * ways + ways) recency) (n * ways) (k * ways + ways) front end ∙ take-take (k * ways + ways) (n * ways) recency end in
-      sym (drop-take (k * ways) ways new) ∙ (ap (drop (k * ways)) taken ∙ drop-take (k * ways) ways recency))
+    let end : k * ways + ways ≤ n * ways = rows_end k n ways below in
+    let taken : take (k * ways + ways) new ≡ take (k * ways + ways) recency =
+    take_first (take (n * ways) recency) slots (drop (n * ways + ways) recency) (n * ways) (k * ways + ways) front end ∙ take-take (k * ways + ways) (n * ways) recency end in
+    sym (drop-take (k * ways) ways new) ∙ (ap (drop (k * ways)) taken ∙ drop-take (k * ways) ways recency))
     (λ above.
-      let strict : n < k = omega (arith, above, ne) in
-      let start : n * ways + ways ≤ k * ways = rows_end n k ways strict in
-      let gap : (n * ways + ways) + (k * ways - (n * ways + ways)) ≡ k * ways = omega arith in
-      ap (take ways)
-      (drop_two (take (n * ways) recency) slots (drop (n * ways + ways) recency) (n * ways) ways (k * ways) front size start
-        ∙ (drop-drop (k * ways - (n * ways + ways)) (n * ways + ways) recency ∙ ap (λ d. drop d recency) gap)))
+    let strict : n < k = omega (arith, above, ne) in
+    let start : n * ways + ways ≤ k * ways = rows_end n k ways strict in
+    let gap : (n * ways + ways) + (k * ways - (n * ways + ways)) ≡ k * ways = omega arith in
+    ap (take ways)
+    (drop_two (take (n * ways) recency) slots (drop (n * ways + ways) recency) (n * ways) ways (k * ways) front size start
+    ∙ (drop-drop (k * ways - (n * ways + ways)) (n * ways + ways) recency ∙ ap (λ d. drop d recency) gap)))
     (cases_lt k n)
 
 length-put_slots : (sets ways n : ℕ) (recency slots : List ℕ) → length recency ≡ sets * ways → length slots ≡ ways → n < sets → length (put_slots ways n recency slots) ≡ sets * ways
@@ -235,8 +231,8 @@ view_of-put_first sets ways n slot lines reserved recency count h =
     let size : length slots ≡ ways = length-slot_first slot (slots_of ways recency n) ∙ length-slots_of sets ways n recency count h in
     ap (λ (s : List (List Way)). let v : CacheView = record { ways = ways; sets = s } in v)
     (sets_by_changed way way sets ways n recency (put_first ways n slot recency) (touched_in slot) h
-      (ap (map way) (slots_of-put_slots sets ways n recency slots count size h) ∙ map-slot_first lines reserved slot (slots_of ways recency n))
-      (λ k inside ne. ap (map way) (slots_of_other sets ways n k recency slots count size h ne)))
+    (ap (map way) (slots_of-put_slots sets ways n recency slots count size h) ∙ map-slot_first lines reserved slot (slots_of ways recency n))
+    (λ k inside ne. ap (map way) (slots_of_other sets ways n k recency slots count size h ne)))
 
 pub length-put_first : (sets ways n slot : ℕ) (recency : List ℕ) → length recency ≡ sets * ways → n < sets → length (put_first ways n slot recency) ≡ sets * ways
 length-put_first sets ways n slot recency count h =

@@ -7,7 +7,7 @@ use Rattle.std.proofs.lemmas.List.FromFn.{length-range_with_len, length-map-rang
 use Rattle.rsim_base.specs.declared.memory.Line.{Line}
 use Rattle.cache_sets.specs.Ways.{Way, has_slot}
 use Rattle.cache_sets.specs.Caches.{CacheView, empty_way, empty_cache}
-use Rattle.cache_sets.specs.Sound.{IsSound, IsSoundSet, is_slot_of, concerns, is_torn}
+use Rattle.cache_sets.specs.Sound.{IsSound, IsSoundSet, concerns, is_torn}
 use Rattle.cache_sets.specs.Layout.{mark_at, way_at, slots_of, sets_by, view_of}
 use Rattle.cache_sets.proofs.Counts.{one_if, count_by-cons, count_by_never}
 use Rattle.cache_sets.proofs.Keeping.{rows_end, count_by-map, Shows, shows, length-sets_by, set_by}
@@ -36,10 +36,11 @@ slots_of-range sets ways n h =
 
 -- a slot stands once in a range that it is in
 range_value : (low high k : ℕ) → ((low ≤ k) × (k < high) → one_if (nat_le low k && nat_lt k high) ≡ 1) × (k < low → one_if (nat_le low k && nat_lt k high) ≡ 0) × (high ≤ k → one_if (nat_le low k && nat_lt k high) ≡ 0)
-range_value low high k =
-    ( λ h. ap one_if (and_from (nat_le low k) (nat_lt k high) (le-leb low k h.0) (lt-ltb k high h.1)),
-      λ h. ap one_if (and_left (nat_le low k) (nat_lt k high) (lt-leb low k h)),
-      λ h. ap one_if (and_right (nat_le low k) (nat_lt k high) (le-ltb k high h)) )
+range_value low high k = (
+  λ h. ap one_if (and_from (nat_le low k) (nat_lt k high) (le-leb low k h.0) (lt-ltb k high h.1)),
+  λ h. ap one_if (and_left (nat_le low k) (nat_lt k high) (lt-leb low k h)),
+  λ h. ap one_if (and_right (nat_le low k) (nat_lt k high) (le-ltb k high h)),
+)
 
 count_by-range : (k a n : ℕ) → count_by (λ j. j == k) (range_with_len a n) ≡ one_if (nat_le a k && nat_lt k (a + n))
 count_by-range k a zero =
@@ -52,20 +53,20 @@ count_by-range k a (suc n) =
     let new = range_value a (a + suc n) k in
     ⊎_elim
     (λ below.
-      let other : one_if (a == k) ≡ 0 = ap one_if (ne_eqb a k (λ e. omega arith)) in
-      omega (arith, here, rest, other, old.1 (omega arith), new.1 below))
+    let other : one_if (a == k) ≡ 0 = ap one_if (ne_eqb a k (λ e. omega arith)) in
+    omega (arith, here, rest, other, old.1 (omega arith), new.1 below))
     (λ above.
-      ⊎_elim
-      (λ after.
-        let other : one_if (a == k) ≡ 0 = ap one_if (ne_eqb a k (λ e. omega arith)) in
-        ⊎_elim
-        (λ inside. omega (arith, here, rest, other, old.0 (omega arith, inside), new.0 (above, omega (arith, inside))))
-        (λ past. omega (arith, here, rest, other, old.2 past, new.2 (omega (arith, past))))
-        (cases_lt k (a + 1 + n)))
-      (λ same.
-        let it : one_if (a == k) ≡ 1 = ap one_if (eq-eqb a k (omega arith)) in
-        omega (arith, here, rest, it, old.1 (omega arith), new.0 (above, omega arith)))
-      (cases_lt a k))
+    ⊎_elim
+    (λ after.
+    let other : one_if (a == k) ≡ 0 = ap one_if (ne_eqb a k (λ e. omega arith)) in
+    ⊎_elim
+    (λ inside. omega (arith, here, rest, other, old.0 (omega arith, inside), new.0 (above, omega (arith, inside))))
+    (λ past. omega (arith, here, rest, other, old.2 past, new.2 (omega (arith, past))))
+    (cases_lt k (a + 1 + n)))
+    (λ same.
+    let it : one_if (a == k) ≡ 1 = ap one_if (eq-eqb a k (omega arith)) in
+    omega (arith, here, rest, it, old.1 (omega arith), new.0 (above, omega arith)))
+    (cases_lt a k))
     (cases_lt k a)
 
 -- ---- an empty cache
@@ -102,8 +103,8 @@ IsSound-empty sets ways some =
     record {
       some = omega (arith, same, some);
       each = λ n within.
-        let inside : n < sets = omega (arith, same, within) in
-        rw (same, empty_set_at sets ways n inside) (IsSoundSet-empty sets ways n);
+          let inside : n < sets = omega (arith, same, within) in
+          rw (same, empty_set_at sets ways n inside) (IsSoundSet-empty sets ways n);
     }
 
 view_of-empty : (sets ways : ℕ) → view_of sets ways (replicate (sets * ways) None) (replicate (sets * ways) None) (range_with_len 0 (sets * ways)) ≡ empty_cache sets ways
@@ -113,11 +114,11 @@ view_of-empty sets ways =
     let same = length-sets_by (way_at marks marks) sets ways recency in
     ap (λ (s : List (List Way)). let v : CacheView = record { ways = ways; sets = s } in v)
     (ext_get_or [] (sets_by (way_at marks marks) sets ways recency) (empty_cache sets ways).sets (same ∙ sym (length-empty_cache sets ways))
-      (λ n below.
-        let inside : n < sets = omega (arith, same, below) in
-        set_by (way_at marks marks) sets ways n recency inside
-        ∙ (map_each (way_at marks marks) empty_way (slots_of ways recency n) (λ j. let none = mark_at-none (sets * ways) j in ap (λ (m : Option ℕ). let w : Way = record { slot = j; line = m; reserved = m } in w) none)
-        ∙ (ap (map empty_way) (slots_of-range sets ways n inside) ∙ sym (empty_set_at sets ways n inside)))))
+    (λ n below.
+    let inside : n < sets = omega (arith, same, below) in
+    set_by (way_at marks marks) sets ways n recency inside
+    ∙ (map_each (way_at marks marks) empty_way (slots_of ways recency n) (λ j. let none = mark_at-none (sets * ways) j in ap (λ (m : Option ℕ). let w : Way = record { slot = j; line = m; reserved = m } in w) none)
+    ∙ (ap (map empty_way) (slots_of-range sets ways n inside) ∙ sym (empty_set_at sets ways n inside)))))
 
 pub Shows-empty : (sets ways : ℕ) (lines reserved : List (Option Line)) (recency : List ℕ) → 0 < sets → sets * ways < 2 ^ 32 →
     lines ≡ replicate (sets * ways) None → reserved ≡ replicate (sets * ways) None → recency ≡ range_with_len 0 (sets * ways) → Shows sets ways lines reserved recency (empty_cache sets ways)

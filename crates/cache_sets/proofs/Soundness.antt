@@ -1,6 +1,6 @@
 -- Every change of a cache keeps what is true of every cache.
-use Rattle.std.proofs.Common.{◌≡◌, ℕ, ◌+◌, ◌%◌, ◌<◌, ◌≤◌, ◌==◌, ◌/◌, Bool, true, false, not, ◌&&◌, ◌||◌, cond, eqb, List, [], ◌∷◌, ◌++◌, length, get_or, set, map, filter, find, reverse, count_by, Option, Some, None, option_map, arith, refl, sym, ap, ◌∙◌, subst, inl, inr, ⊎_elim, length-append}
-use Rattle.std.proofs.lemmas.Bool.{cases_eq, and_right, or_cases, or_parts, eq-eqb, ne_eqb}
+use Rattle.std.proofs.Common.{◌≡◌, ℕ, ◌+◌, ◌%◌, ◌<◌, ◌≤◌, ◌==◌, ◌/◌, Bool, true, false, not, ◌&&◌, ◌||◌, cond, List, [], length, get_or, set, filter, find, count_by, Option, Some, None, option_map, arith, refl, sym, ap, ◌∙◌, subst, ⊎_elim, length-append}
+use Rattle.std.proofs.lemmas.Bool.{cases_eq, and_right, eq-eqb, ne_eqb}
 use Rattle.std.proofs.lemmas.List.{length-map, length-set, get_or-set_same, get_or-set_other}
 use Rattle.std.proofs.lemmas.List.Filters.{length-filter_both}
 use Rattle.cache_sets.specs.Ways.{Way, names, has_slot, holds, is_reserved_for, reserved_for, held_for, filled_with, emptied, slot_in, reserved_in, room_in, changed_at, touched_in, reserve_in, hold_in, fill_in, drop_in}
@@ -23,8 +23,8 @@ IsSoundSet-touched slot members sound =
     let same = count_by-parted (has_slot slot) in
     record {
       count =
-        length-append (filter (has_slot slot) members) (filter (λ way. not (has_slot slot way)) members)
-        ∙ (length-filter_both (has_slot slot) (λ way. not (has_slot slot way)) (λ _. refl) members ∙ sound.count);
+          length-append (filter (has_slot slot) members) (filter (λ way. not (has_slot slot way)) members)
+          ∙ (length-filter_both (has_slot slot) (λ way. not (has_slot slot way)) (λ _. refl) members ∙ sound.count);
       slots = λ k. same (has_slot k) members ∙ sound.slots k;
       own = λ line. omega (arith, same (concerns line) members, sound.own line);
       whole = same is_torn members ∙ sound.whole;
@@ -34,7 +34,7 @@ IsSoundSet-touched slot members sound =
 IsSoundSet-changed : {sets ways n : ℕ} (slot : ℕ) (change : Way → Way) (members : List Way) →
     ((way : Way) → (change way).slot ≡ way.slot) →
     ((line : ℕ) → count_by (concerns line) members + count_by (at slot (λ way. concerns line (change way))) members
-      ≤ one_if (line % sets == n) + count_by (at slot (concerns line)) members) →
+    ≤ one_if (line % sets == n) + count_by (at slot (concerns line)) members) →
     count_by (at slot (λ way. is_torn (change way))) members ≡ 0 →
     IsSoundSet sets ways n members → IsSoundSet sets ways n (changed_at (Some slot) change members)
 IsSoundSet-changed slot change members kept own whole sound =
@@ -42,8 +42,8 @@ IsSoundSet-changed slot change members kept own whole sound =
     record {
       count = length-map members (λ way. cond (has_slot slot way) (change way) way) ∙ sound.count;
       slots = λ k.
-        let same = count_by_agree (at slot (λ way. has_slot k (change way))) (at slot (has_slot k)) members (λ way. ap (λ s. has_slot slot way && (s == k)) (kept way)) in
-        omega (arith, moved (has_slot k), same, sound.slots k);
+          let same = count_by_agree (at slot (λ way. has_slot k (change way))) (at slot (has_slot k)) members (λ way. ap (λ s. has_slot slot way && (s == k)) (kept way)) in
+          omega (arith, moved (has_slot k), same, sound.slots k);
       own = λ line. omega (arith, moved (concerns line), own line);
       whole = omega (arith, moved is_torn, whole, sound.whole);
     }
@@ -64,7 +64,7 @@ weaker slot p q members h = count_by_le (at slot p) (at slot q) members (λ way.
 at_home : (sets n line : ℕ) → line % sets ≡ n → one_if (line % sets == n) ≡ 1
 at_home sets n line e = ap one_if (eq-eqb (line % sets) n e)
 
-none_from_option_map : {X Y : Type 0} (f : X → Y) (o : Option X) → option_map f o ≡ None → o ≡ None
+pub none_from_option_map : {X Y : Type 0} (f : X → Y) (o : Option X) → option_map f o ≡ None → o ≡ None
 none_from_option_map f None e = refl
 none_from_option_map f (Some x) e = absurd cc
 
@@ -95,8 +95,8 @@ reserve_at sets ways n line None members absent home sound = sound
 reserve_at sets ways n line (Some slot) members absent home sound =
     IsSoundSet-changed slot (reserved_for line) members (λ _. refl)
     (at_each sets n slot (reserved_for line) members line
-      (omega (arith, absent, at_home sets n line home, slot_once sound slot, count_by_both_le (has_slot slot) (λ way. concerns line (reserved_for line way)) members))
-      (λ l ne. omega (arith, sound.own l, never slot (λ way. concerns l (reserved_for line way)) members (λ _. other l line ne))))
+    (omega (arith, absent, at_home sets n line home, slot_once sound slot, count_by_both_le (has_slot slot) (λ way. concerns line (reserved_for line way)) members))
+    (λ l ne. omega (arith, sound.own l, never slot (λ way. concerns l (reserved_for line way)) members (λ _. other l line ne))))
     (never slot (λ way. is_torn (reserved_for line way)) members (λ _. refl))
     sound
 
@@ -106,18 +106,18 @@ IsSoundSet-reserve sets ways n line members absent unreserved home sound =
     reserve_at sets ways n line (option_map (λ way. way.slot) (room_in members)) members (concerns_none line members absent unreserved) home sound
 
 -- the one way with the slot of a line's way holds the line
-holds_there : {sets ways n : ℕ} {members : List Way} (line slot : ℕ) → IsSoundSet sets ways n members → slot_in line members ≡ Some slot →
+pub holds_there : {sets ways n : ℕ} {members : List Way} (line slot : ℕ) → IsSoundSet sets ways n members → slot_in line members ≡ Some slot →
     (1 ≤ count_by (at slot (holds line)) members) × (count_by (at slot (λ way. not (holds line way))) members ≡ 0)
 holds_there {members = members} line slot sound is =
     let found = count_by_found (λ way. way.slot) (holds line) members slot is in
     let others = count_by_split (has_slot slot) (holds line) members in
     (found, omega (arith, found, others, slot_once sound slot))
 
-or_from_left : (a b : Bool) → a ≡ true → (a || b) ≡ true
+pub or_from_left : (a b : Bool) → a ≡ true → (a || b) ≡ true
 or_from_left true b e = refl
 or_from_left false b e = absurd cc
 
-or_from_right : (a b : Bool) → b ≡ true → (a || b) ≡ true
+pub or_from_right : (a b : Bool) → b ≡ true → (a || b) ≡ true
 or_from_right true b e = refl
 or_from_right false b e = e
 
@@ -137,29 +137,29 @@ hold_at sets ways n line (Some slot) members is sound =
     let there = weaker slot (holds line) (concerns line) members (λ way. or_from_left (holds line way) (is_reserved_for line way)) in
     IsSoundSet-changed slot (held_for line) members (λ _. refl)
     (at_each sets n slot (held_for line) members line
-      (omega (arith, found, there, sound.own line, slot_once sound slot, count_by_both_le (has_slot slot) (λ way. concerns line (held_for line way)) members))
-      (λ l ne.
-        let less = weaker slot (λ way. concerns l (held_for line way)) (concerns l) members
-          (λ way e. or_from_left (holds l way) (is_reserved_for l way) (or_without (holds l way) (names l (Some line)) (other l line ne) e)) in
-        omega (arith, sound.own l, less)))
+    (omega (arith, found, there, sound.own line, slot_once sound slot, count_by_both_le (has_slot slot) (λ way. concerns line (held_for line way)) members))
+    (λ l ne.
+    let less = weaker slot (λ way. concerns l (held_for line way)) (concerns l) members
+    (λ way e. or_from_left (holds l way) (is_reserved_for l way) (or_without (holds l way) (names l (Some line)) (other l line ne) e)) in
+    omega (arith, sound.own l, less)))
     (omega (arith, others, weaker slot (λ way. is_torn (held_for line way)) (λ way. not (holds line way)) members (λ way. apart_from line way.line)))
     sound
 
 IsSoundSet-hold : (sets ways n line : ℕ) (members : List Way) → IsSoundSet sets ways n members → IsSoundSet sets ways n (hold_in line members)
 IsSoundSet-hold sets ways n line members sound = hold_at sets ways n line (slot_in line members) members refl sound
 
-IsSoundSet-fill : (sets ways n slot line : ℕ) (members : List Way) →
+pub IsSoundSet-fill : (sets ways n slot line : ℕ) (members : List Way) →
     reserved_in line members ≡ Some slot → IsSoundSet sets ways n members → IsSoundSet sets ways n (fill_in slot line members)
 IsSoundSet-fill sets ways n slot line members is sound =
     let found = count_by_found (λ way. way.slot) (is_reserved_for line) members slot is in
     let there = weaker slot (is_reserved_for line) (concerns line) members (λ way. or_from_right (holds line way) (is_reserved_for line way)) in
     IsSoundSet-touched slot (changed_at (Some slot) (filled_with line) members)
     (IsSoundSet-changed slot (filled_with line) members (λ _. refl)
-      (at_each sets n slot (filled_with line) members line
-        (omega (arith, found, there, sound.own line, slot_once sound slot, count_by_both_le (has_slot slot) (λ way. concerns line (filled_with line way)) members))
-        (λ l ne. omega (arith, sound.own l, never slot (λ way. concerns l (filled_with line way)) members (λ _. ap (λ b. b || false) (other l line ne)))))
-      (never slot (λ way. is_torn (filled_with line way)) members (λ _. refl))
-      sound)
+    (at_each sets n slot (filled_with line) members line
+    (omega (arith, found, there, sound.own line, slot_once sound slot, count_by_both_le (has_slot slot) (λ way. concerns line (filled_with line way)) members))
+    (λ l ne. omega (arith, sound.own l, never slot (λ way. concerns l (filled_with line way)) members (λ _. ap (λ b. b || false) (other l line ne)))))
+    (never slot (λ way. is_torn (filled_with line way)) members (λ _. refl))
+    sound)
 
 drop_at : (sets ways n : ℕ) (slot : Option ℕ) (members : List Way) → IsSoundSet sets ways n members → IsSoundSet sets ways n (changed_at slot emptied members)
 drop_at sets ways n None members sound = sound
@@ -181,16 +181,16 @@ IsSound-in_set n change cache kept sound =
     record {
       some = omega (arith, same, sound.some);
       each = λ k within.
-        let inside : k < length cache.sets = omega (arith, same) in
-        let there : Sound (length cache.sets) k (get_or (set cache.sets n new) k []) =
-        ⊎_elim
-        (λ e.
+          let inside : k < length cache.sets = omega (arith, same) in
+          let there : Sound (length cache.sets) k (get_or (set cache.sets n new) k []) =
+          ⊎_elim
+          (λ e.
           let here : n < length cache.sets = omega (arith, e, inside) in
           subst (λ (j : ℕ). Sound (length cache.sets) j (get_or (set cache.sets n new) j [])) (sym e)
           (rw (get_or-set_same cache.sets n new [] here) (kept here (sound.each n here))))
-        (λ ne. rw (get_or-set_other cache.sets n k new [] ne) (sound.each k inside))
-        (cases_eq k n) in
-        rw same there;
+          (λ ne. rw (get_or-set_other cache.sets n k new [] ne) (sound.each k inside))
+          (cases_eq k n) in
+          rw same there;
     }
 
 pub IsSound-touched : (slot : ℕ) (cache : CacheView) → IsSound cache → IsSound (touched slot cache)

@@ -1,5 +1,5 @@
 -- A cache: sets of ways. A line may stand in one set only, that of its number modulo their count.
-use Rattle.std.specs.Prelude.{ℕ, ◌*◌, ◌/◌, ◌%◌, List, [], length, map, slice_index_or, slice_set, Option, Some, None, option_map}
+use Rattle.std.specs.Prelude.{ℕ, ◌*◌, ◌/◌, ◌%◌, List, [], length, map, slice_index_or, slice_set, Option, None, option_map}
 use Rattle.std.specs.List.{range_with_len}
 use Rattle.rsim_base.specs.declared.memory.Line.{Line}
 use Rattle.cache_sets.specs.Ways.{Way, slot_in, reserved_in, room_in, touched_in, reserve_in, hold_in, fill_in, drop_in}

@@ -1,6 +1,6 @@
 -- How a cache is kept: by slot the line that a way holds and the line that it is reserved for, and by set the slots
 -- of its ways, the most recently used first.
-use Rattle.std.specs.Prelude.{◌≡◌, ℕ, ◌+◌, ◌*◌, ◌^◌, ◌==◌, ◌<◌, Bool, not, List, ◌++◌, length, map, filter, take, drop, slice_index_or, Option, None, option_map}
+use Rattle.std.specs.Prelude.{◌≡◌, ℕ, ◌*◌, ◌^◌, ◌==◌, ◌<◌, not, List, ◌++◌, length, map, filter, take, drop, slice_index_or, Option, None, option_map}
 use Rattle.std.specs.List.{range_with_len}
 use Rattle.rsim_base.specs.declared.memory.Line.{Line}
 use Rattle.cache_sets.specs.Ways.{Way}

@@ -1,6 +1,6 @@
 -- What is true of every cache.
 use Rattle.std.specs.Prelude.{◌≡◌, ℕ, ◌+◌, ◌*◌, ◌%◌, ◌==◌, ◌<◌, ◌≤◌, Bool, false, not, ◌&&◌, ◌||◌, nat_le, nat_lt, if◌then◌else◌, List, length, count_by, Option, Some, None}
-use Rattle.cache_sets.specs.Ways.{Way, names, has_slot, holds, is_reserved_for}
+use Rattle.cache_sets.specs.Ways.{Way, has_slot, holds, is_reserved_for}
 use Rattle.cache_sets.specs.Caches.{CacheView, set_at}
 
 -- the slot is one of this set

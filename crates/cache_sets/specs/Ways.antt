@@ -1,5 +1,5 @@
 -- One set of a cache: its ways, the most recently used first.
-use Rattle.std.specs.Prelude.{ℕ, ◌==◌, Bool, false, not, ◌&&◌, ◌||◌, if◌then◌else◌, List, ◌++◌, map, filter, find, reverse, Option, Some, None, option_map, is_none}
+use Rattle.std.specs.Prelude.{ℕ, ◌==◌, Bool, false, not, ◌&&◌, if◌then◌else◌, List, ◌++◌, map, filter, find, reverse, Option, Some, None, option_map, is_none}
 use Rattle.std.specs.Option.{option_or}
 
 -- a way: its slot, the line that it holds, if any, and the line that it is reserved for, if any

@@ -1,6 +1,7 @@
 // A cache as its sets of ways.
 ghost use Rattle.std.specs.Prelude.{◌≡◌, ◌≢◌, ◌+◌, ◌*◌, ◌/◌, ◌%◌, ◌^◌, ◌<◌, ◌≤◌, IfOk, IfSome, None, Some, length, map, option_map};
 ghost use Rattle.cache_sets.specs.Caches as cache;
+ghost use Rattle.cache_sets.specs.Lookups.{LooksUpAsBefore, LooksUpReserved, LooksUpHeld, LooksUpFilled, LooksUpDropped};
 ghost use Rattle.cache_sets.specs.Sound.{IsSound};
 
 use crate::slots::{find_room, find_slot, first_slots, move_to_front};
@@ -83,6 +84,7 @@ impl CacheSets {
     pub fn touch(&mut self, slot: u32)
         requires { slot < cache.slot_count self.old }
         ensures touched { self.new ≡ cache.touched slot self.old }
+        ensures looks { LooksUpAsBefore self.old self.new }
         ensures sound { IsSound self.new }
     {
         let ways = self.ways as usize;
@@ -98,6 +100,7 @@ impl CacheSets {
         requires unreserved { cache.reserved_slot line.0 self.old ≡ None }
         ensures told { result ≡ option_map cache.told (cache.room_for line.0 self.old) }
         ensures reserved { self.new ≡ cache.with_reserved line.0 self.old }
+        ensures looks { LooksUpReserved line.0 self.old self.new }
         ensures within { IfSome result (λ way. way.slot < cache.slot_count self.old) }
         ensures sound { IsSound self.new }
     {
@@ -111,6 +114,7 @@ impl CacheSets {
     pub fn hold_way(&mut self, line: Line)
         requires { cache.slot_of line.0 self.old ≢ None }
         ensures held { self.new ≡ cache.with_held line.0 self.old }
+        ensures looks { LooksUpHeld line.0 self.old self.new }
         ensures sound { IsSound self.new }
     {
         if let Some(slot) = self.find(line) {
@@ -123,6 +127,7 @@ impl CacheSets {
     pub fn fill(&mut self, slot: u32, line: Line)
         requires { cache.reserved_slot line.0 self.old ≡ Some slot }
         ensures filled { self.new ≡ cache.filled slot line.0 self.old }
+        ensures looks { LooksUpFilled slot line.0 self.old self.new }
         ensures sound { IsSound self.new }
     {
         let start = self.start_of(line);
@@ -134,6 +139,7 @@ impl CacheSets {
     /// Empties the way of a line, if it is there. A reservation of the way stays.
     pub fn drop_line(&mut self, line: Line)
         ensures dropped { self.new ≡ cache.dropped line.0 self.old }
+        ensures looks { LooksUpDropped line.0 self.old self.new }
         ensures sound { IsSound self.new }
     {
         if let Some(slot) = self.find(line) {

@@ -57,7 +57,7 @@ pub(crate) fn find_room(
     requires reserved { All (λ slot. slot < vec_len reserved.now) slots.now }
     ensures { result
         ≡ option_or (find (λ slot. is_none (mark_at lines.now.items slot) && is_none (mark_at reserved.now.items slot)) slots.now)
-          (find (λ slot. is_none (mark_at reserved.now.items slot)) (reverse slots.now)) }
+        (find (λ slot. is_none (mark_at reserved.now.items slot)) (reverse slots.now)) }
 {
     let mut room = None;
     for slot in slots {
@@ -77,7 +77,7 @@ pub(crate) fn move_to_front(recency: &mut Vec<u32>, start: usize, ways: usize, s
     requires once { count_by (λ s. s == slot) (take ways (drop start recency.old.items)) ≤ 1 }
     ensures { recency.new.items
         ≡ take start recency.old.items
-          ++ (slot_first slot (take ways (drop start recency.old.items)) ++ drop (start + ways) recency.old.items) }
+        ++ (slot_first slot (take ways (drop start recency.old.items)) ++ drop (start + ways) recency.old.items) }
 {
     let slots = &mut recency[start..start + ways];
     put_first(slots, slot);

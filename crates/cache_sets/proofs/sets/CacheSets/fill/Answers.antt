@@ -1,9 +1,13 @@
-use Rattle.std.proofs.Common.{◌≡◌, ◌==◌, ℕ, ◌+◌, ◌*◌, ◌<◌, ◌≤◌, Some, count_by, take, drop, arith, sym, ap, ◌∙◌}
+use Rattle.std.proofs.Common.{subst, ◌==◌, ℕ, Some, count_by, take, drop, arith, sym, ap, ◌∙◌}
 use Rattle.cache_sets.specs.Ways.{is_reserved_for}
-use Rattle.cache_sets.specs.Caches.{home_of, reserved_slot, slot_count}
+use Rattle.cache_sets.specs.Caches.{home_of, reserved_slot}
 use Rattle.cache_sets.specs.Layout.{view_of}
 use Rattle.cache_sets.proofs.Keeping.{home_within, put_first_from}
 use Rattle.cache_sets.proofs.Calls.{start_at, home_ends, slot_count_is, slots_once, told_within, Shows-filled}
+use Rattle.cache_sets.specs.Caches.{CacheView}
+use Rattle.cache_sets.specs.Sound.{IsSound}
+use Rattle.cache_sets.specs.Lookups.{LooksUpFilled}
+use Rattle.cache_sets.proofs.Looking.{LooksUp-filled}
 use Rattle.cache_sets.proofs.sets.CacheSets.fill.Goals as goal
 
 pub index_mut-requires : goal.index_mut-requires
@@ -57,3 +61,9 @@ returns-clause-sound c =
     let start = start_at s.sets s.ways c.args.line.0 c.start_of-start.result s.lines.items s.reserved.items s.recency.items c.args.self.now c.self.view_is c.start_of-start.ensures.start in
     let moved = put_first_from s.ways (home_of c.args.line.0 (view_of s.sets s.ways s.lines.items s.reserved.items s.recency.items)) c.args.slot c.start_of-start.result s.recency.items c.move_to_front.new.recency.items start c.move_to_front.ensures in
     rw moved (Shows-filled s.sets s.ways c.args.slot c.args.line s.lines.items s.reserved.items s.recency.items c.self.invariant is).kept.sound
+
+pub returns-clause-looks : goal.returns-clause-looks
+returns-clause-looks c =
+    let now = c.args.self.now in
+    let After : CacheView → Type 0 = λ v. LooksUpFilled c.args.slot c.args.line.0 now v in
+    subst After (sym (returns-clause-filled c)) (LooksUp-filled c.args.slot c.args.line.0 now c.requires (subst IsSound c.self.view_is c.self.invariant.sound))

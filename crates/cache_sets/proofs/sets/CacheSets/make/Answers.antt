@@ -1,6 +1,5 @@
-use Rattle.std.proofs.Common.{◌≡◌, ℕ, ◌*◌, ◌<◌, List, Option, None, replicate, rules, arith}
+use Rattle.std.proofs.Common.{◌≡◌, ◌*◌, None, replicate, rules, arith}
 use Rattle.std.specs.List.{range_with_len}
-use Rattle.rsim_base.specs.declared.memory.Line.{Line}
 use Rattle.cache_sets.proofs.Made.{Shows-empty}
 use Rattle.cache_sets.proofs.sets.CacheSets.make.Goals as goal
 

@@ -1,10 +1,14 @@
-use Rattle.std.proofs.Common.{◌≡◌, ℕ, ◌*◌, ◌<◌, ◌≤◌, Option, Some, None, option_map, vec_len, arith, refl, sym, ap, ◌∙◌}
+use Rattle.std.proofs.Common.{subst, ℕ, ◌*◌, ◌≤◌, Option, Some, option_map, vec_len, arith, sym, ap, ◌∙◌}
 use Rattle.rsim_base.specs.declared.memory.Line.{Line}
 use Rattle.cache_sets.specs.declared.sets.Reserved.{Reserved}
 use Rattle.cache_sets.specs.Ways.{Way}
 use Rattle.cache_sets.specs.Caches.{slot_of, reserved_slot, room_for, told, slot_count}
 use Rattle.cache_sets.specs.Layout.{way_at}
 use Rattle.cache_sets.proofs.Calls.{slots_fit_in, slot_count_is, found_room, room_within, victim_told, with_reserved-none, Shows-with_reserved}
+use Rattle.cache_sets.specs.Caches.{CacheView}
+use Rattle.cache_sets.specs.Sound.{IsSound}
+use Rattle.cache_sets.specs.Lookups.{LooksUpReserved}
+use Rattle.cache_sets.proofs.Looking.{LooksUp-with_reserved}
 use Rattle.cache_sets.proofs.sets.CacheSets.reserve_way.Goals as goal
 
 pub find_room-requires-clause-lines : goal.find_room-requires-clause-lines
@@ -104,3 +108,15 @@ returns-clause-sound c =
     let absent = ap (slot_of c.args.line.0) c.self.view_is ∙ c.requires.absent in
     let unreserved = ap (reserved_slot c.args.line.0) c.self.view_is ∙ c.requires.unreserved in
     rw c.take-victim.ensures.after (Shows-with_reserved s.sets s.ways c.in_ok-slot.slot c.args.line s.lines.items s.reserved.items s.recency.items c.self.invariant absent unreserved slot).kept.sound
+
+pub returns-clause-looks : goal.returns-clause-looks
+returns-clause-looks c =
+    let now = c.args.self.now in
+    let After : CacheView → Type 0 = λ v. LooksUpReserved c.args.line.0 now v in
+    subst After (sym (returns-clause-reserved c)) (LooksUp-with_reserved c.args.line.0 now c.requires.unreserved (subst IsSound c.self.view_is c.self.invariant.sound))
+
+pub returns-in_err-slot-clause-looks : goal.returns-in_err-slot-clause-looks
+returns-in_err-slot-clause-looks c =
+    let now = c.args.self.now in
+    let After : CacheView → Type 0 = λ v. LooksUpReserved c.args.line.0 now v in
+    subst After (sym (returns-in_err-slot-clause-reserved c)) (LooksUp-with_reserved c.args.line.0 now c.requires.unreserved (subst IsSound c.self.view_is c.self.invariant.sound))

@@ -1,6 +1,6 @@
-use Rattle.std.proofs.Common.{◌≡◌, ℕ, ◌*◌, ◌≤◌, Option, Some, None, vec_len, arith, sym, ap, ◌∙◌}
-use Rattle.cache_sets.specs.Ways.{holds, is_reserved_for}
-use Rattle.cache_sets.specs.Caches.{slot_of, reserved_slot, slot_count}
+use Rattle.std.proofs.Common.{◌*◌, ◌≤◌, vec_len, arith, sym, ap, ◌∙◌}
+use Rattle.cache_sets.specs.Ways.{is_reserved_for}
+use Rattle.cache_sets.specs.Caches.{reserved_slot}
 use Rattle.cache_sets.proofs.Calls.{slots_fit_in, found_reserved, told_within}
 use Rattle.cache_sets.proofs.sets.CacheSets.reserved.Goals as goal
 

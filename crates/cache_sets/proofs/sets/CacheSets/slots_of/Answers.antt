@@ -1,4 +1,4 @@
-use Rattle.std.proofs.Common.{◌≡◌, ℕ, ◌+◌, ◌-◌, ◌*◌, ◌≤◌, List, length, take, drop, map, arith, ap, ◌∙◌}
+use Rattle.std.proofs.Common.{◌≡◌, ℕ, ◌+◌, ◌-◌, ◌*◌, List, take, drop, map, arith, ap, ◌∙◌}
 use Rattle.cache_sets.specs.Ways.{Way}
 use Rattle.cache_sets.specs.Caches.{home_of, set_of}
 use Rattle.cache_sets.specs.Layout.{view_of, slots_of}
