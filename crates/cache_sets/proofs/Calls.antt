@@ -211,6 +211,15 @@ victim_told lines reserved slot victim within is =
     let tell : Option Line → Reserved = λ v. record { slot = slot; victim = v } in
     ap tell (sym (ap (option_map (λ n. let l : Line = record { 0 = n } in l)) number ∙ line_told victim))
 
+-- the slot of a way that was told
+pub slot_told_of : (room : Option Way) (way : Reserved) → Some way ≡ option_map told room → option_map (λ w. w.slot) room ≡ Some way.slot
+slot_told_of None way is = absurd cc
+slot_told_of (Some w) way is = ap (λ (o : Option Reserved). option_map (λ r. r.slot) o) (sym is)
+
+pub none_told : (room : Option Way) → None ≡ option_map told room → room ≡ None
+none_told None is = refl
+none_told (Some w) is = absurd cc
+
 -- the room is a way of the set
 either_way : {X Y : Type 0} (f : X → Y) (a b : Option X) (y : Y) → option_map f (option_or a b) ≡ Some y → (option_map f a ≡ Some y) ⊎ (option_map f b ≡ Some y)
 either_way f None b y e = inr e

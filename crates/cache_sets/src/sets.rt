@@ -92,6 +92,16 @@ impl CacheSets {
         move_to_front(&mut self.recency, start, ways, slot);
     }
 
+    /// What `reserve_way` would answer for a line that is not there and has no reserved way.
+    pub fn would_reserve(&self, line: Line) -> Option<Reserved>
+        ensures told { result ≡ option_map cache.told (cache.room_for line.0 self.now) }
+        ensures within { IfSome result (λ way. way.slot < cache.slot_count self.now) }
+    {
+        let slot = find_room(self.slots_of(line), &self.lines, &self.reserved)?;
+        let victim = self.lines[slot as usize];
+        Some(Reserved { slot, victim })
+    }
+
     /// Reserves a way of the line's set for a line that is not there and has none: the first that is empty and not
     /// reserved, else the least recently used one that is not reserved, whose line leaves at once. `None` where all
     /// are reserved.
@@ -104,10 +114,10 @@ impl CacheSets {
         ensures within { IfSome result (λ way. way.slot < cache.slot_count self.old) }
         ensures sound { IsSound self.new }
     {
-        let slot = find_room(self.slots_of(line), &self.lines, &self.reserved)?;
-        let victim = self.lines[slot as usize].take();
-        self.reserved[slot as usize] = Some(line);
-        Some(Reserved { slot, victim })
+        let room = self.would_reserve(line)?;
+        self.lines[room.slot as usize] = None;
+        self.reserved[room.slot as usize] = Some(line);
+        Some(room)
     }
 
     /// Reserves the way of a line that is there for it.

@@ -1,113 +1,55 @@
-use Rattle.std.proofs.Common.{subst, ℕ, ◌*◌, ◌≤◌, Option, Some, option_map, vec_len, arith, sym, ap, ◌∙◌}
-use Rattle.rsim_base.specs.declared.memory.Line.{Line}
-use Rattle.cache_sets.specs.declared.sets.Reserved.{Reserved}
+use Rattle.std.proofs.Common.{◌≡◌, ℕ, Option, option_map, arith, sym, ap, subst, ◌∙◌}
 use Rattle.cache_sets.specs.Ways.{Way}
-use Rattle.cache_sets.specs.Caches.{slot_of, reserved_slot, room_for, told, slot_count}
-use Rattle.cache_sets.specs.Layout.{way_at}
-use Rattle.cache_sets.proofs.Calls.{slots_fit_in, slot_count_is, found_room, room_within, victim_told, with_reserved-none, Shows-with_reserved}
-use Rattle.cache_sets.specs.Caches.{CacheView}
-use Rattle.cache_sets.specs.Sound.{IsSound}
+use Rattle.cache_sets.specs.Caches.{CacheView, slot_of, reserved_slot, room_for}
 use Rattle.cache_sets.specs.Lookups.{LooksUpReserved}
+use Rattle.cache_sets.specs.Sound.{IsSound}
+use Rattle.cache_sets.proofs.Calls.{slot_told_of, none_told, room_within, with_reserved-none, Shows-with_reserved}
 use Rattle.cache_sets.proofs.Looking.{LooksUp-with_reserved}
 use Rattle.cache_sets.proofs.sets.CacheSets.reserve_way.Goals as goal
 
-pub find_room-requires-clause-lines : goal.find_room-requires-clause-lines
-find_room-requires-clause-lines c =
-    let s = c.self.inside in
-    let count : s.sets * s.ways ≤ vec_len s.lines = omega (arith, c.self.invariant.lines_count) in
-    slots_fit_in s.sets s.ways c.args.line.0 (vec_len s.lines) s.lines.items s.reserved.items s.recency.items c.slots_of.result.now c.args.self.now c.self.invariant c.self.view_is c.slots_of.ensures count
+pub returns-in_err-room-clause-reserved : goal.returns-in_err-room-clause-reserved
+returns-in_err-room-clause-reserved c =
+    let now = c.args.self.now in
+    let none = none_told (room_for c.args.line.0 now) c.in_err-room.ensures.told in
+    sym (with_reserved-none c.args.line.0 now none)
 
-pub find_room-requires-clause-reserved : goal.find_room-requires-clause-reserved
-find_room-requires-clause-reserved c =
-    let s = c.self.inside in
-    let count : s.sets * s.ways ≤ vec_len s.reserved = omega (arith, c.self.invariant.reserved_count) in
-    slots_fit_in s.sets s.ways c.args.line.0 (vec_len s.reserved) s.lines.items s.reserved.items s.recency.items c.slots_of.result.now c.args.self.now c.self.invariant c.self.view_is c.slots_of.ensures count
-
-pub returns-in_err-slot-clause-told : goal.returns-in_err-slot-clause-told
-returns-in_err-slot-clause-told c =
-    let s = c.self.inside in
-    let room = found_room s.sets s.ways c.args.line.0 s.lines.items s.reserved.items s.recency.items c.slots_of.result.now c.args.self.now c.find_room.result c.self.invariant c.self.view_is c.slots_of.ensures c.find_room.ensures in
-    let none = room ∙ ap (option_map (way_at s.lines.items s.reserved.items)) c.in_err-slot.was in
-    c.from_residual.ensures ∙ sym (ap (option_map told) none)
-
-pub returns-in_err-slot-clause-reserved : goal.returns-in_err-slot-clause-reserved
-returns-in_err-slot-clause-reserved c =
-    let s = c.self.inside in
-    let room = found_room s.sets s.ways c.args.line.0 s.lines.items s.reserved.items s.recency.items c.slots_of.result.now c.args.self.now c.find_room.result c.self.invariant c.self.view_is c.slots_of.ensures c.find_room.ensures in
-    let none = room ∙ ap (option_map (way_at s.lines.items s.reserved.items)) c.in_err-slot.was in
-    sym (with_reserved-none c.args.line.0 c.args.self.now none)
+pub returns-in_err-room-clause-looks : goal.returns-in_err-room-clause-looks
+returns-in_err-room-clause-looks c =
+    let now = c.args.self.now in
+    let After : CacheView → Type 0 = λ v. LooksUpReserved c.args.line.0 now v in
+    subst After (sym (returns-in_err-room-clause-reserved c)) (LooksUp-with_reserved c.args.line.0 now c.requires.unreserved (subst IsSound c.self.view_is c.self.invariant.sound))
 
 pub index_mut-requires : goal.index_mut-requires
 index_mut-requires c =
     let s = c.self.inside in
-    let room = found_room s.sets s.ways c.args.line.0 s.lines.items s.reserved.items s.recency.items c.slots_of.result.now c.args.self.now c.find_room.result c.self.invariant c.self.view_is c.slots_of.ensures c.find_room.ensures in
-    let is = ap (λ (o : Option ℕ). option_map (way_at s.lines.items s.reserved.items) o) c.in_ok-slot.was in
-    let there = room ∙ is in
-    let slot = ap (λ v. option_map (λ (way : Way). way.slot) (room_for c.args.line.0 v)) c.self.view_is ∙ ap (option_map (λ (way : Way). way.slot)) there in
-    omega (arith, room_within s.sets s.ways c.args.line.0 c.in_ok-slot.slot s.lines.items s.reserved.items s.recency.items c.self.invariant slot, c.self.invariant.lines_count)
+    let told_here = c.in_ok-room.ensures.told in
+    let slot = ap (λ v. option_map (λ (way : Way). way.slot) (room_for c.args.line.0 v)) c.self.view_is ∙ slot_told_of (room_for c.args.line.0 c.args.self.now) c.in_ok-room.room told_here in
+    omega (arith, room_within s.sets s.ways c.args.line.0 c.in_ok-room.room.slot s.lines.items s.reserved.items s.recency.items c.self.invariant slot, c.self.invariant.lines_count)
 
 pub index_mut-requires-2 : goal.index_mut-requires-2
 index_mut-requires-2 c =
     let s = c.self.inside in
-    let room = found_room s.sets s.ways c.args.line.0 s.lines.items s.reserved.items s.recency.items c.slots_of.result.now c.args.self.now c.find_room.result c.self.invariant c.self.view_is c.slots_of.ensures c.find_room.ensures in
-    let is = ap (λ (o : Option ℕ). option_map (way_at s.lines.items s.reserved.items) o) c.in_ok-slot.was in
-    let there = room ∙ is in
-    let slot = ap (λ v. option_map (λ (way : Way). way.slot) (room_for c.args.line.0 v)) c.self.view_is ∙ ap (option_map (λ (way : Way). way.slot)) there in
-    omega (arith, room_within s.sets s.ways c.args.line.0 c.in_ok-slot.slot s.lines.items s.reserved.items s.recency.items c.self.invariant slot, c.self.invariant.reserved_count)
+    let told_here = c.in_ok-room.ensures.told in
+    let slot = ap (λ v. option_map (λ (way : Way). way.slot) (room_for c.args.line.0 v)) c.self.view_is ∙ slot_told_of (room_for c.args.line.0 c.args.self.now) c.in_ok-room.room told_here in
+    omega (arith, room_within s.sets s.ways c.args.line.0 c.in_ok-room.room.slot s.lines.items s.reserved.items s.recency.items c.self.invariant slot, c.self.invariant.reserved_count)
 
 pub invariant_of-self : goal.invariant_of-self
 invariant_of-self c =
     let s = c.self.inside in
-    let room = found_room s.sets s.ways c.args.line.0 s.lines.items s.reserved.items s.recency.items c.slots_of.result.now c.args.self.now c.find_room.result c.self.invariant c.self.view_is c.slots_of.ensures c.find_room.ensures in
-    let is = ap (λ (o : Option ℕ). option_map (way_at s.lines.items s.reserved.items) o) c.in_ok-slot.was in
-    let there = room ∙ is in
-    let slot = ap (λ v. option_map (λ (way : Way). way.slot) (room_for c.args.line.0 v)) c.self.view_is ∙ ap (option_map (λ (way : Way). way.slot)) there in
+    let told_here = c.in_ok-room.ensures.told in
+    let slot = ap (λ v. option_map (λ (way : Way). way.slot) (room_for c.args.line.0 v)) c.self.view_is ∙ slot_told_of (room_for c.args.line.0 c.args.self.now) c.in_ok-room.room told_here in
     let absent = ap (slot_of c.args.line.0) c.self.view_is ∙ c.requires.absent in
     let unreserved = ap (reserved_slot c.args.line.0) c.self.view_is ∙ c.requires.unreserved in
-    rw c.take-victim.ensures.after (Shows-with_reserved s.sets s.ways c.in_ok-slot.slot c.args.line s.lines.items s.reserved.items s.recency.items c.self.invariant absent unreserved slot).kept
-
-pub returns-clause-told : goal.returns-clause-told
-returns-clause-told c =
-    let s = c.self.inside in
-    let room = found_room s.sets s.ways c.args.line.0 s.lines.items s.reserved.items s.recency.items c.slots_of.result.now c.args.self.now c.find_room.result c.self.invariant c.self.view_is c.slots_of.ensures c.find_room.ensures in
-    let is = ap (λ (o : Option ℕ). option_map (way_at s.lines.items s.reserved.items) o) c.in_ok-slot.was in
-    let there = room ∙ is in
-    let slot = ap (λ v. option_map (λ (way : Way). way.slot) (room_for c.args.line.0 v)) c.self.view_is ∙ ap (option_map (λ (way : Way). way.slot)) there in
-    let within = room_within s.sets s.ways c.args.line.0 c.in_ok-slot.slot s.lines.items s.reserved.items s.recency.items c.self.invariant slot in
-    let told_there = victim_told s.lines.items s.reserved.items c.in_ok-slot.slot c.index_mut.result.now (omega (arith, within, c.self.invariant.lines_count)) c.index_mut.ensures.value in
-    let tell : Option Line → Option Reserved = λ victim. Some (record { slot = c.in_ok-slot.slot; victim = victim }) in
-    ap tell c.take-victim.ensures.value ∙ (ap Some told_there ∙ sym (ap (option_map told) there))
+    (Shows-with_reserved s.sets s.ways c.in_ok-room.room.slot c.args.line s.lines.items s.reserved.items s.recency.items c.self.invariant absent unreserved slot).kept
 
 pub returns-clause-reserved : goal.returns-clause-reserved
 returns-clause-reserved c =
     let s = c.self.inside in
-    let room = found_room s.sets s.ways c.args.line.0 s.lines.items s.reserved.items s.recency.items c.slots_of.result.now c.args.self.now c.find_room.result c.self.invariant c.self.view_is c.slots_of.ensures c.find_room.ensures in
-    let is = ap (λ (o : Option ℕ). option_map (way_at s.lines.items s.reserved.items) o) c.in_ok-slot.was in
-    let there = room ∙ is in
-    let slot = ap (λ v. option_map (λ (way : Way). way.slot) (room_for c.args.line.0 v)) c.self.view_is ∙ ap (option_map (λ (way : Way). way.slot)) there in
+    let told_here = c.in_ok-room.ensures.told in
+    let slot = ap (λ v. option_map (λ (way : Way). way.slot) (room_for c.args.line.0 v)) c.self.view_is ∙ slot_told_of (room_for c.args.line.0 c.args.self.now) c.in_ok-room.room told_here in
     let absent = ap (slot_of c.args.line.0) c.self.view_is ∙ c.requires.absent in
     let unreserved = ap (reserved_slot c.args.line.0) c.self.view_is ∙ c.requires.unreserved in
-    rw (← c.self.view_is, c.take-victim.ensures.after) (Shows-with_reserved s.sets s.ways c.in_ok-slot.slot c.args.line s.lines.items s.reserved.items s.recency.items c.self.invariant absent unreserved slot).view
-
-pub returns-clause-within : goal.returns-clause-within
-returns-clause-within c =
-    let s = c.self.inside in
-    let room = found_room s.sets s.ways c.args.line.0 s.lines.items s.reserved.items s.recency.items c.slots_of.result.now c.args.self.now c.find_room.result c.self.invariant c.self.view_is c.slots_of.ensures c.find_room.ensures in
-    let is = ap (λ (o : Option ℕ). option_map (way_at s.lines.items s.reserved.items) o) c.in_ok-slot.was in
-    let there = room ∙ is in
-    let slot = ap (λ v. option_map (λ (way : Way). way.slot) (room_for c.args.line.0 v)) c.self.view_is ∙ ap (option_map (λ (way : Way). way.slot)) there in
-    omega (arith, room_within s.sets s.ways c.args.line.0 c.in_ok-slot.slot s.lines.items s.reserved.items s.recency.items c.self.invariant slot, ap slot_count c.self.view_is, slot_count_is s.sets s.ways s.lines.items s.reserved.items s.recency.items)
-
-pub returns-clause-sound : goal.returns-clause-sound
-returns-clause-sound c =
-    let s = c.self.inside in
-    let room = found_room s.sets s.ways c.args.line.0 s.lines.items s.reserved.items s.recency.items c.slots_of.result.now c.args.self.now c.find_room.result c.self.invariant c.self.view_is c.slots_of.ensures c.find_room.ensures in
-    let is = ap (λ (o : Option ℕ). option_map (way_at s.lines.items s.reserved.items) o) c.in_ok-slot.was in
-    let there = room ∙ is in
-    let slot = ap (λ v. option_map (λ (way : Way). way.slot) (room_for c.args.line.0 v)) c.self.view_is ∙ ap (option_map (λ (way : Way). way.slot)) there in
-    let absent = ap (slot_of c.args.line.0) c.self.view_is ∙ c.requires.absent in
-    let unreserved = ap (reserved_slot c.args.line.0) c.self.view_is ∙ c.requires.unreserved in
-    rw c.take-victim.ensures.after (Shows-with_reserved s.sets s.ways c.in_ok-slot.slot c.args.line s.lines.items s.reserved.items s.recency.items c.self.invariant absent unreserved slot).kept.sound
+    rw (← c.self.view_is) (Shows-with_reserved s.sets s.ways c.in_ok-room.room.slot c.args.line s.lines.items s.reserved.items s.recency.items c.self.invariant absent unreserved slot).view
 
 pub returns-clause-looks : goal.returns-clause-looks
 returns-clause-looks c =
@@ -115,8 +57,11 @@ returns-clause-looks c =
     let After : CacheView → Type 0 = λ v. LooksUpReserved c.args.line.0 now v in
     subst After (sym (returns-clause-reserved c)) (LooksUp-with_reserved c.args.line.0 now c.requires.unreserved (subst IsSound c.self.view_is c.self.invariant.sound))
 
-pub returns-in_err-slot-clause-looks : goal.returns-in_err-slot-clause-looks
-returns-in_err-slot-clause-looks c =
-    let now = c.args.self.now in
-    let After : CacheView → Type 0 = λ v. LooksUpReserved c.args.line.0 now v in
-    subst After (sym (returns-in_err-slot-clause-reserved c)) (LooksUp-with_reserved c.args.line.0 now c.requires.unreserved (subst IsSound c.self.view_is c.self.invariant.sound))
+pub returns-clause-sound : goal.returns-clause-sound
+returns-clause-sound c =
+    let s = c.self.inside in
+    let told_here = c.in_ok-room.ensures.told in
+    let slot = ap (λ v. option_map (λ (way : Way). way.slot) (room_for c.args.line.0 v)) c.self.view_is ∙ slot_told_of (room_for c.args.line.0 c.args.self.now) c.in_ok-room.room told_here in
+    let absent = ap (slot_of c.args.line.0) c.self.view_is ∙ c.requires.absent in
+    let unreserved = ap (reserved_slot c.args.line.0) c.self.view_is ∙ c.requires.unreserved in
+    (Shows-with_reserved s.sets s.ways c.in_ok-room.room.slot c.args.line s.lines.items s.reserved.items s.recency.items c.self.invariant absent unreserved slot).kept.sound
