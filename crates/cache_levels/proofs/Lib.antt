@@ -1,0 +1,4 @@
+pub mod ConfigSizes
+pub mod Empty
+pub mod Putting
+pub mod Standing

@@ -1,0 +1,4 @@
+pub mod Bytes
+pub mod Levels
+pub mod Sizes
+pub mod Sound

@@ -1,0 +1,8 @@
+//! The two levels of caches of a node: which lines are near, which are held and owned, and the bytes of those.
+#![tactic(auto)]
+
+mod bytes;
+mod levels;
+mod tags;
+
+pub use levels::{Evicted, Levels};
