@@ -418,4 +418,6 @@ IsApart-sound cache sound = record {
       (cases_eq line other);
   within = λ line slot is.
       slot_within (length cache.sets) cache.ways (home_of line cache) slot (home_inside line cache sound) (found_slot_there (holds line) line slot cache sound is);
+  reserved_within = λ line slot is.
+      slot_within (length cache.sets) cache.ways (home_of line cache) slot (home_inside line cache sound) (found_slot_there (is_reserved_for line) line slot cache sound is);
 }

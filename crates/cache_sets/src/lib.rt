@@ -7,5 +7,5 @@ mod slots;
 #[cfg(test)]
 mod tests;
 
-pub use laws::lines_are_apart;
+pub use laws::{lines_are_apart, look_ups_follow};
 pub use sets::{CacheSets, Reserved};

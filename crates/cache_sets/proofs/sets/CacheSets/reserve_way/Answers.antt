@@ -1,4 +1,4 @@
-use Rattle.std.proofs.Common.{◌≡◌, ℕ, Option, option_map, arith, sym, ap, subst, ◌∙◌}
+use Rattle.std.proofs.Common.{option_map, arith, sym, ap, subst, ◌∙◌}
 use Rattle.cache_sets.specs.Ways.{Way}
 use Rattle.cache_sets.specs.Caches.{CacheView, slot_of, reserved_slot, room_for}
 use Rattle.cache_sets.specs.Lookups.{LooksUpReserved}

@@ -1,14 +1,10 @@
-use Rattle.std.proofs.Common.{subst, ℕ, ◌*◌, ◌≤◌, Option, Some, option_map, vec_len, arith, sym, ap, ◌∙◌}
+use Rattle.std.proofs.Common.{ℕ, ◌*◌, ◌≤◌, Option, Some, option_map, vec_len, arith, sym, ap, ◌∙◌}
 use Rattle.rsim_base.specs.declared.memory.Line.{Line}
 use Rattle.cache_sets.specs.declared.sets.Reserved.{Reserved}
 use Rattle.cache_sets.specs.Ways.{Way}
-use Rattle.cache_sets.specs.Caches.{slot_of, reserved_slot, room_for, told, slot_count}
+use Rattle.cache_sets.specs.Caches.{room_for, told, slot_count}
 use Rattle.cache_sets.specs.Layout.{way_at}
-use Rattle.cache_sets.proofs.Calls.{slots_fit_in, slot_count_is, found_room, room_within, victim_told, with_reserved-none, Shows-with_reserved}
-use Rattle.cache_sets.specs.Caches.{CacheView}
-use Rattle.cache_sets.specs.Sound.{IsSound}
-use Rattle.cache_sets.specs.Lookups.{LooksUpReserved}
-use Rattle.cache_sets.proofs.Looking.{LooksUp-with_reserved}
+use Rattle.cache_sets.proofs.Calls.{slots_fit_in, slot_count_is, found_room, room_within, victim_told}
 use Rattle.cache_sets.proofs.sets.CacheSets.would_reserve.Goals as goal
 
 pub find_room-requires-clause-lines : goal.find_room-requires-clause-lines
