@@ -2,7 +2,11 @@
 #![tactic(auto)]
 
 mod bytes;
+mod laws;
 mod levels;
 mod tags;
+#[cfg(test)]
+mod tests;
 
+pub use laws::{copies_follow, written_bytes_read_back};
 pub use levels::{Evicted, Levels};

@@ -1,0 +1,1 @@
+// Levels of small sizes.
