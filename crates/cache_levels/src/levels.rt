@@ -53,11 +53,11 @@ const NOTHING_EVICTED: Evicted = Evicted {
 /// The two levels of caches of a node. What is near is held.
 #[derive(Drop)]
 pub struct Levels {
-    first: CacheSets,
-    second: CacheSets,
+    pub(crate) first: CacheSets,
+    pub(crate) second: CacheSets,
     // By slot of the second level.
     copies: Vec<LineCopy>,
-    line_bytes: u64,
+    pub(crate) line_bytes: u64,
 }
 
 impl Model for Levels {
