@@ -17,8 +17,11 @@ use std::marker::Model;
 /// and the bytes are 0.
 #[derive(Clone, Copy, Debug, PartialEq, Eq)]
 pub struct Evicted {
+    /// The line that leaves.
     pub line: Option<Line>,
+    /// Whether it was owned.
     pub owned: bool,
+    /// Its bytes, of which the first count, as many as a line has.
     pub bytes: [u8; 128],
 }
 
@@ -53,7 +56,7 @@ const NOTHING_EVICTED: Evicted = Evicted {
 /// The two levels of caches of a node. What is near is held.
 #[derive(Drop)]
 pub struct Levels {
-    pub(crate) first: CacheSets,
+    first: CacheSets,
     pub(crate) second: CacheSets,
     // By slot of the second level.
     copies: Vec<LineCopy>,

@@ -12,7 +12,9 @@ use std::marker::Model;
 /// A way that was reserved: its slot, and the line that it held, which is there no longer.
 #[derive(Clone, Copy, Debug, PartialEq, Eq)]
 pub struct Reserved {
+    /// The way's slot.
     pub slot: u32,
+    /// The line that leaves.
     pub victim: Option<Line>,
 }
 
