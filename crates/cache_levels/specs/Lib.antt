@@ -1,0 +1,5 @@
+pub mod Bytes
+pub mod Laws
+pub mod Levels
+pub mod Sizes
+pub mod Sound

@@ -1,0 +1,9 @@
+pub mod Calls
+pub mod Counts
+pub mod Finding
+pub mod Keeping
+pub mod Looking
+pub mod Made
+pub mod Places
+pub mod Rooms
+pub mod Soundness
