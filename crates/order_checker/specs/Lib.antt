@@ -1,0 +1,5 @@
+pub mod Faults
+pub mod Firsts
+pub mod Fit
+pub mod Order
+pub mod Values
