@@ -7,7 +7,7 @@ use Rattle.order_checker.specs.Firsts.{first, least, last}
 pub below_suc : (k n : ℕ) → k < suc n → (k < n) ⊎ (k ≡ n)
 below_suc k n below = ⊎_elim (λ lt. inl lt) (λ ge. inr (omega arith)) (cases_lt k n)
 
-option_or_none : {A : Type 0} (a b : Option A) → option_or a b ≡ None → (a ≡ None) × (b ≡ None)
+pub option_or_none : {A : Type 0} (a b : Option A) → option_or a b ≡ None → (a ≡ None) × (b ≡ None)
 option_or_none None b e = (refl, e)
 option_or_none (Some x) b e = absurd cc
 

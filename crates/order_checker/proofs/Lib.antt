@@ -1,1 +1,9 @@
+pub mod Clean
 pub mod FirstOnes
+pub mod Fitting
+pub mod LinePlaces
+pub mod Lists
+pub mod MadeLines
+pub mod Replays
+pub mod SourceBytes
+pub mod Steps

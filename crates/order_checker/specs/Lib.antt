@@ -1,5 +1,6 @@
 pub mod Faults
 pub mod Firsts
 pub mod Fit
+pub mod Laws
 pub mod Order
 pub mod Values

@@ -1,6 +1,8 @@
 //! Whether an order of memory accesses is one that a machine may write for an executable.
 #![tactic(auto)]
 
+mod laws;
 mod verdict;
 
+pub use laws::faultless_orders_fit;
 pub use verdict::{Accepted, Part, Rejected};
