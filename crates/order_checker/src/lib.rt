@@ -2,6 +2,7 @@
 #![tactic(auto)]
 
 mod laws;
+mod places;
 mod verdict;
 
 pub use laws::faultless_orders_fit;
