@@ -7,3 +7,4 @@ pub mod MadeLines
 pub mod Replays
 pub mod SourceBytes
 pub mod Steps
+pub mod TableLines

@@ -3,5 +3,7 @@ pub mod Firsts
 pub mod Fit
 pub mod Laws
 pub mod Order
+pub mod Outcomes
+pub mod Programs
 pub mod Tables
 pub mod Values
