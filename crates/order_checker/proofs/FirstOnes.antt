@@ -97,9 +97,9 @@ last_cases test zero = inl (refl, λ k below. absurd (omega arith))
 last_cases test (suc n) = ⊎_elim
     (λ yes. inr (n, cond-true (test n) (Some n) (last test n) yes, record { passes = yes; below = omega arith; behind = λ k above below. absurd (omega arith) }))
     (λ no. ⊎_elim
-        (λ (none, all). inl (cond-false (test n) (Some n) (last test n) no ∙ none, λ k below. at_all all no k below))
-        (λ (i, is, at). inr (i, cond-false (test n) (Some n) (last test n) no ∙ is, record { passes = at.passes; below = lower i at.below; behind = λ k above below. behind i at no k above below }))
-        (last_cases test n))
+    (λ (none, all). inl (cond-false (test n) (Some n) (last test n) no ∙ none, λ k below. at_all all no k below))
+    (λ (i, is, at). inr (i, cond-false (test n) (Some n) (last test n) no ∙ is, record { passes = at.passes; below = lower i at.below; behind = λ k above below. behind i at no k above below }))
+    (last_cases test n))
     (cases_Bool (test n))
   where
     lower : (i : ℕ) → i < n → i < suc n

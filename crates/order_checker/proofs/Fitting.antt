@@ -163,7 +163,7 @@ run_replayed image c runs fits p (suc k) ran new vs at_run at_values is front =
     replayed_more image c.processors c.lines p k old new
     (run_replayed image c runs fits p k ran old vs at_run at_values less.1 (front_before p old new _ ran.accesses advance.is front))
     (next_from image c p vs old new advance (λ x one. has_line image c runs fits p (length old.accesses) ran (made_after old.fences x) vs at_run at_values
-        (front.front (length old.accesses) (made_after old.fences x) (ap (λ xs. slice_get xs (length old.accesses)) one ∙ slice_get_last old.accesses (made_after old.fences x)))))
+    (front.front (length old.accesses) (made_after old.fences x) (ap (λ xs. slice_get xs (length old.accesses)) one ∙ slice_get_last old.accesses (made_after old.fences x)))))
 
 replay_is : (image : ImageView) (c : CertificateView) (runs : List Ran) (fits : Fits image c runs) (p : ℕ) (ran : Ran) → p < c.processors → slice_get runs p ≡ Some ran → replay image c p ≡ Ok ran
 replay_is image c runs fits p ran below at_run =
@@ -194,7 +194,7 @@ no_run_fault image c runs fits p below =
 same_programs : (image : ImageView) (c : CertificateView) (runs : List Ran) → Fits image c runs → (p i : ℕ) (m : Made) → made_at (programs image c) p i ≡ Some m → made_at (map (λ ran. ran.accesses) runs) p i ≡ Some m
 same_programs image c runs fits p i m is = ⊎_elim
     (λ below. let here = run_of image c runs fits p below in
-        made_at-run runs p i here.0 here.1.stands ∙ sym (made_at-replay image c p i here.0 below (replay_is image c runs fits p here.0 below here.1.stands)) ∙ is)
+    made_at-run runs p i here.0 here.1.stands ∙ sym (made_at-replay image c p i here.0 below (replay_is image c runs fits p here.0 below here.1.stands)) ∙ is)
     (λ past. absurd (nothing (sym (made_at-past image c p i past) ∙ is))) (cases_lt p c.processors)
   where
     nothing : None ≡ Some m → ⊥

@@ -4,6 +4,7 @@ pub mod Fitting
 pub mod LinePlaces
 pub mod Lists
 pub mod MadeLines
+pub mod Replaying
 pub mod Replays
 pub mod SourceBytes
 pub mod Steps

@@ -55,8 +55,10 @@ stray_none n lines j e at none =
     (leb-false n e.node.0 parts.0, parts.1)
 
 pub AreOnce-from : (n : ℕ) (lines : List Access) → ((j : ℕ) → j < length lines → stray n lines j ≡ None) → AreOnce lines
-AreOnce-from n lines none = record { once = λ j k e f at_j at_k node index.
-    ⊎_elim (λ same. same) (⊎_elim (λ lt. absurd (clash j k e f at_j at_k node index lt)) (λ lt. absurd (clash k j f e at_k at_j (sym node) (sym index) lt))) (cases_order j k) }
+AreOnce-from n lines none = record {
+  once = λ j k e f at_j at_k node index.
+      ⊎_elim (λ same. same) (⊎_elim (λ lt. absurd (clash j k e f at_j at_k node index lt)) (λ lt. absurd (clash k j f e at_k at_j (sym node) (sym index) lt))) (cases_order j k);
+}
   where
     clash : (j k : ℕ) (e f : Access) → slice_get lines j ≡ Some e → slice_get lines k ≡ Some f → e.node.0 ≡ f.node.0 → e.index ≡ f.index → j < k → ⊥
     clash j k e f at_j at_k node index lt =

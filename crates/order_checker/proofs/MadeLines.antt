@@ -34,13 +34,16 @@ act_cases p i value (Out spoken) found = inl (refl, refl)
 act_cases p i value Ended found = inl (refl, refl)
 act_cases p i value (Load addr size loaded) found = inr (
   record { node = record { 0 = p }; index = i; kind = kind.Load; addr = addr; size = size; loaded = loaded; stored = 0 },
-  record { list = refl; node = refl; index = refl; uses = refl; loaded = λ is. found; unloaded = λ is. absurd cc; unstored = λ is. refl })
+  record { list = refl; node = refl; index = refl; uses = refl; loaded = λ is. found; unloaded = λ is. absurd cc; unstored = λ is. refl },
+)
 act_cases p i value (Store addr size stored) found = inr (
   record { node = record { 0 = p }; index = i; kind = kind.Store; addr = addr; size = size; loaded = 0; stored = stored },
-  record { list = refl; node = refl; index = refl; uses = refl; loaded = λ is. absurd cc; unloaded = λ is. refl; unstored = λ is. absurd cc })
+  record { list = refl; node = refl; index = refl; uses = refl; loaded = λ is. absurd cc; unloaded = λ is. refl; unstored = λ is. absurd cc },
+)
 act_cases p i value (Atomic addr size loaded stored) found = inr (
   record { node = record { 0 = p }; index = i; kind = kind.Atomic; addr = addr; size = size; loaded = loaded; stored = stored },
-  record { list = refl; node = refl; index = refl; uses = refl; loaded = λ is. found; unloaded = λ is. absurd cc; unstored = λ is. absurd cc })
+  record { list = refl; node = refl; index = refl; uses = refl; loaded = λ is. found; unloaded = λ is. absurd cc; unstored = λ is. absurd cc },
+)
 
 -- ---- a line that does not differ
 

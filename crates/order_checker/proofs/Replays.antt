@@ -122,7 +122,7 @@ replayed_lines image n lines p (suc k) ran are is i m at = by_old (λ old was at
     by_old earlier (old, was, next) = ⊎_elim
         (λ (none, quiet). earlier old was (ap (λ xs. slice_get xs i) (sym (after_none p old ran _ next.is none)) ∙ at))
         (λ (x, made, line). ⊎_elim (earlier old was) (λ (here, is_m). subst (λ (j : ℕ). IsMadeLine lines p j m) (sym here) (subst (IsMadeLine lines p (length old.accesses)) (sym is_m) line))
-            (slice_get_more old.accesses (made_after old.fences x) i m (ap (λ xs. slice_get xs i) (sym (after_one p old ran _ x next.is made.list)) ∙ at)))
+        (slice_get_more old.accesses (made_after old.fences x) i m (ap (λ xs. slice_get xs i) (sym (after_one p old ran _ x next.is made.list)) ∙ at)))
         (next_cases image lines p old ran are next)
 
 -- ---- the run

@@ -22,14 +22,16 @@ may_read_is lines at load byte k None are fits found is = absurd cc
 may_read_is lines at load byte k (Some f) are fits found is =
     let outer = and_parts (stores f.kind && nat_lt (gap_of f.addr.0 byte) (count_of f.size) && not (k == at)) (nat_lt k at || is_earlier load (Some f)) is in
     let inner = and_parts (stores f.kind && nat_lt (gap_of f.addr.0 byte) (count_of f.size)) (not (k == at)) outer.0 in
-    let wrote = and_parts (stores f.kind) (nat_lt (gap_of f.addr.0 byte) (count_of f.size)) inner.0 in
-    (f, record {
-      stands = found;
-      writes = wrote.0;
-      byte_in = IsByteOf-from_gap byte f.addr.0 (count_of f.size) fits (are.fits k f found) (ltb-true _ _ wrote.1);
-      another = eqb-false k at (not-true (k == at) inner.1);
-      before = ⊎_elim (λ lt. inl (ltb-true k at lt)) (λ earlier. inr (own earlier)) (or_cases _ _ outer.1);
-    })
+    let wrote = and_parts (stores f.kind) (nat_lt (gap_of f.addr.0 byte) (count_of f.size)) inner.0 in (
+      f,
+      record {
+        stands = found;
+        writes = wrote.0;
+        byte_in = IsByteOf-from_gap byte f.addr.0 (count_of f.size) fits (are.fits k f found) (ltb-true _ _ wrote.1);
+        another = eqb-false k at (not-true (k == at) inner.1);
+        before = ⊎_elim (λ lt. inl (ltb-true k at lt)) (λ earlier. inr (own earlier)) (or_cases _ _ outer.1);
+      },
+    )
   where
     own : is_earlier load (Some f) ≡ true → (f.node.0 ≡ load.node.0) × (f.index < load.index)
     own earlier = let parts = and_parts (f.node.0 == load.node.0) (nat_lt f.index load.index) earlier in (eqb-true _ _ parts.0, ltb-true _ _ parts.1)
@@ -43,8 +45,8 @@ pub may_read-from : (lines : List Access) (at : ℕ) (load : Access) (byte k : �
 may_read-from lines at load byte k f are may = ap (may_read at load byte k) may.stands ∙
     and_from _ _
     (and_from _ _
-        (and_from (stores f.kind) _ may.writes (lt-ltb _ _ (gap_of-IsByteOf byte f.addr.0 (count_of f.size) (are.fits k f may.stands) (count_of-bounds f.size).1 may.byte_in)))
-        (not_from_false _ (ne_eqb k at may.another)))
+    (and_from (stores f.kind) _ may.writes (lt-ltb _ _ (gap_of-IsByteOf byte f.addr.0 (count_of f.size) (are.fits k f may.stands) (count_of-bounds f.size).1 may.byte_in)))
+    (not_from_false _ (ne_eqb k at may.another)))
     (⊎_elim (λ lt. or_left _ _ (lt-ltb k at lt)) (λ own. or_right (nat_lt k at) _ (and_from _ _ (eq-eqb _ _ own.0) (lt-ltb _ _ own.1))) may.before)
 
 -- the byte that is found last, where it is access e that wrote it

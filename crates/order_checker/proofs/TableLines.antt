@@ -106,6 +106,7 @@ fault_found lines n j d tables r below none are fault = stray_found lines n j (g
 pub tables_more : (lines : List Access) (n j : ℕ) (d : Access) (old new : List Table) → j < length lines → first (stray n lines) j ≡ None → AreTables lines n j old → IsNoted (get_or lines j d) j old new →
     (first (stray n lines) (j + 1) ≡ None) × AreTables lines n (j + 1) new
 tables_more lines n j d old new below none are noted =
-    let at = slice_get-get_or lines j d below in
-    (subst (λ k. first (stray n lines) k ≡ None) (sym (add-one j)) (first_none-more (stray n lines) j none (stray-noted lines n j (get_or lines j d) old new at are noted)),
-    subst (λ k. AreTables lines n k new) (sym (add-one j)) (AreTables-noted lines n j (get_or lines j d) old new at are noted))
+    let at = slice_get-get_or lines j d below in (
+      subst (λ k. first (stray n lines) k ≡ None) (sym (add-one j)) (first_none-more (stray n lines) j none (stray-noted lines n j (get_or lines j d) old new at are noted)),
+      subst (λ k. AreTables lines n k new) (sym (add-one j)) (AreTables-noted lines n j (get_or lines j d) old new at are noted),
+    )

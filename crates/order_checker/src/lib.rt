@@ -3,6 +3,7 @@
 
 mod laws;
 mod places;
+mod replay;
 mod verdict;
 
 pub use laws::faultless_orders_fit;

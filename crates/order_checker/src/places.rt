@@ -90,11 +90,7 @@ fn known(place: u32) -> Option<u32>
 ///
 /// # Errors
 /// The first line of no processor, or of an access that an earlier line is of; `Memory`.
-pub fn find_places(
-    alloc: Global,
-    lines: &[Access],
-    processors: u8,
-) -> Result<Vec<Table>, Rejected>
+pub fn find_places(alloc: Global, lines: &[Access], processors: u8) -> Result<Vec<Table>, Rejected>
     requires { length lines.now ≤ 8000000 }
     ensures tables { IfOk result (λ tables. AreTables lines.now processors (length lines.now) tables.items) }
     ensures none { OnOk result (first (stray processors lines.now) (length lines.now) ≡ None) }
