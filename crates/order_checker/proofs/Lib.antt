@@ -8,4 +8,6 @@ pub mod Replaying
 pub mod Replays
 pub mod SourceBytes
 pub mod Steps
+pub mod StillStanding
 pub mod TableLines
+pub mod Unmade

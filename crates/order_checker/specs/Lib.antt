@@ -5,5 +5,6 @@ pub mod Laws
 pub mod Order
 pub mod Outcomes
 pub mod Programs
+pub mod Standing
 pub mod Tables
 pub mod Values

@@ -4,7 +4,12 @@
 mod laws;
 mod places;
 mod replay;
+mod runs;
 mod verdict;
+mod walk;
 
 pub use laws::faultless_orders_fit;
 pub use verdict::{Accepted, Part, Rejected};
+
+#[cfg(test)]
+mod tests;
