@@ -1,30 +1,30 @@
 -- An order without a fault: its processors' runs are those of its lines, and it fits the image.
-use Rattle.std.proofs.Common.{◌≡◌, ◌⊎◌, ◌+◌, ◌%◌, ◌^◌, ◌<◌, ◌≤◌, ◌==◌, ◌&&◌, nat_lt, nat_le, ℕ, Bool, true, false, if◌then◌else◌, List, [], length, map, Option, None, Some, is_some, unwrap_or, option_and_then, slice_get, slice_index, Result, Ok, Err, refl, sym, ap, subst, inl, inr, ⊎_elim, ◌∙◌, arith}
+use Rattle.std.proofs.Common.{◌≡◌, ◌+◌, ◌%◌, ◌^◌, ◌<◌, ◌≤◌, ◌==◌, ◌&&◌, nat_lt, nat_le, ℕ, Bool, true, false, if◌then◌else◌, List, [], length, map, Option, None, Some, unwrap_or, option_and_then, slice_get, slice_index, Result, Ok, Err, refl, sym, ap, subst, ⊎_elim, ◌∙◌, arith}
 use Rattle.std.specs.List.{range_with_len}
 use Rattle.std.specs.Option.{option_or}
 use Rattle.std.proofs.Math.Nat.{mod-lt}
-use Rattle.std.proofs.lemmas.Bool.{and_from, eq-eqb, eqb-true, leb-false, ltb-false, lt-ltb, true_from_ne_false, cases_lt, cases_Bool, cond-true, cond-false, false≢true, false_from_ne_true, le-leb}
+use Rattle.std.proofs.lemmas.Bool.{eq-eqb, eqb-true, leb-false, ltb-false, cases_lt, cond-true}
 use Rattle.std.proofs.lemmas.Nat.{pow_pos}
 use Rattle.std.proofs.lemmas.Option.{slice_get_within, get_or_from_slice_get}
 use Rattle.rsim_base.specs.Accesses.{loads}
-use Rattle.rsim_base.specs.Bytes.{count_of, IsByteOf}
+use Rattle.rsim_base.specs.Bytes.{count_of}
 use Rattle.rsim_base.specs.Made.{Made, no_fences}
 use Rattle.rsim_base.specs.declared.memory.Access.{Access}
 use Rattle.elf64_load.specs.Image.{ImageView}
 use Rattle.order_axioms.specs.Axioms.{needs}
-use Rattle.order_certificate.specs.Certificate.{CertificateView, IsCertificate, IsInText}
+use Rattle.order_certificate.specs.Certificate.{CertificateView, IsCertificate}
 use Rattle.sparc_meaning.specs.Arch.{boot}
 use Rattle.sparc_meaning.specs.Run.{Ran, run}
 use Rattle.order_checker.specs.declared.verdict.Rejected.{Rejected}
-use Rattle.order_checker.specs.Faults.{stray, replay, run_fault, run_fault_of, unmade, unmade_of, programs, made_by, is_needed, is_late, late, source_byte, wrong, line_fault, line_fault_of, first_fault, place_of}
+use Rattle.order_checker.specs.Faults.{stray, replay, run_fault, run_fault_of, unmade, unmade_of, programs, made_by, is_needed, late, source_byte, wrong, line_fault, line_fault_of, first_fault, place_of}
 use Rattle.order_checker.specs.Firsts.{first}
 use Rattle.order_checker.specs.Fit.{Fit}
 use Rattle.order_checker.specs.Order.{Respects, IsEntryOf, made_at}
 use Rattle.order_checker.specs.Values.{Explains, ExplainsByte, loaded_byte}
 use Rattle.order_checker.proofs.FirstOnes.{option_or_none, first_none-at}
-use Rattle.order_checker.proofs.LinePlaces.{IsLineOf, AreOnce, AreOnce-from, stray_none, place_once}
-use Rattle.order_checker.proofs.Lists.{slice_get-range, slice_get-range_past, length-range, length-map_of, slice_get_mapped, slice_get_unmapped, slice_get_some, Some-injective, Ok-injective}
-use Rattle.order_checker.proofs.Replays.{AreInText, IsMadeLine, values_of, replayed_lines, replayed_run}
+use Rattle.order_checker.proofs.LinePlaces.{AreOnce, AreOnce-from, stray_none, place_once}
+use Rattle.order_checker.proofs.Lists.{slice_get-range, slice_get-range_past, length-range, length-map_of, slice_get_mapped, slice_get_unmapped, slice_get_some, Some-injective}
+use Rattle.order_checker.proofs.Replays.{AreInText, values_of, replayed_lines, replayed_run}
 use Rattle.order_checker.proofs.SourceBytes.{AreInMemory, explained_from}
 
 -- ---- the parts of having no fault

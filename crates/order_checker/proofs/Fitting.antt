@@ -1,10 +1,10 @@
 -- An order that fits has no fault.
-use Rattle.std.proofs.Common.{◌≡◌, ◌⊎◌, ◌+◌, ◌%◌, ◌^◌, ◌<◌, ◌≤◌, ◌==◌, ◌&&◌, nat_lt, nat_le, ℕ, zero, suc, Bool, true, false, if◌then◌else◌, List, [], ◌∷◌, ◌++◌, length, map, Option, None, Some, option_map, unwrap_or, option_and_then, slice_get, slice_index, Result, Ok, Err, refl, sym, ap, subst, inl, inr, ⊎_elim, ◌∙◌, arith}
+use Rattle.std.proofs.Common.{◌≡◌, ◌+◌, ◌%◌, ◌^◌, ◌<◌, ◌==◌, ◌&&◌, nat_lt, nat_le, ℕ, zero, suc, Bool, true, false, if◌then◌else◌, List, [], ◌∷◌, ◌++◌, length, map, Option, None, Some, option_map, unwrap_or, option_and_then, slice_get, Ok, refl, sym, ap, subst, ⊎_elim, ◌∙◌, arith}
 use Rattle.std.specs.Option.{option_or}
 use Rattle.std.proofs.Math.Nat.{mod-lt}
-use Rattle.std.proofs.lemmas.Bool.{and_left, and_right, eqb-true, eq-eqb, le-ltb, lt-leb, cond-true, cond-false, cases_lt, cases_Bool}
+use Rattle.std.proofs.lemmas.Bool.{eqb-true, eq-eqb, le-ltb, lt-leb, cond-true, cond-false, cases_lt}
 use Rattle.std.proofs.lemmas.Nat.{pow_pos}
-use Rattle.std.proofs.lemmas.Option.{slice_get_within, slice_get_past, get_or_from_slice_get}
+use Rattle.std.proofs.lemmas.Option.{slice_get_within, get_or_from_slice_get}
 use Rattle.rsim_base.specs.Accesses.{loads}
 use Rattle.rsim_base.specs.Bytes.{count_of}
 use Rattle.rsim_base.specs.Made.{Made}
@@ -26,7 +26,7 @@ use Rattle.order_checker.specs.Order.{IsEntryOf, made_at}
 use Rattle.order_checker.specs.Values.{loaded_byte}
 use Rattle.order_checker.proofs.Clean.{made_at-replay, made_at-past, made_at-some, made_at-run, AreInMemory-certificate}
 use Rattle.order_checker.proofs.FirstOnes.{first_none-from}
-use Rattle.order_checker.proofs.LinePlaces.{IsLineOf, AreOnce, line_of-place, place_once, stray_from}
+use Rattle.order_checker.proofs.LinePlaces.{AreOnce, place_once, stray_from}
 use Rattle.order_checker.proofs.Lists.{slice_get-append_left, slice_get_last, slice_get_some, Some-injective}
 use Rattle.order_checker.proofs.MadeLines.{IsMade, act_cases, AreAlike, IsEntryOf-alike, differing-alike}
 use Rattle.order_checker.proofs.Replays.{line_at, stepped_on, IsNext, replayed_more, after_one}

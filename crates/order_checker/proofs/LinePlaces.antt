@@ -1,11 +1,11 @@
 -- Where the line of each access stands.
-use Rattle.std.proofs.Common.{◌≡◌, ◌⊎◌, ◌<◌, ◌==◌, ◌&&◌, ◌||◌, ℕ, Bool, true, false, if◌then◌else◌, List, length, slice_get, Option, None, Some, is_some, refl, sym, ap, subst, inl, inr, ⊎_elim, ◌∙◌, arith}
-use Rattle.std.proofs.lemmas.Bool.{and_parts, and_from, or_parts, or_from, eqb-true, eq-eqb, leb-false, lt-leb, cond-true, cond-false, false_from_ne_true, cases_order, false≢true}
+use Rattle.std.proofs.Common.{◌≡◌, ◌<◌, ◌==◌, ◌||◌, ℕ, Bool, true, false, if◌then◌else◌, List, length, slice_get, Option, None, Some, is_some, refl, sym, ap, ⊎_elim, ◌∙◌, arith}
+use Rattle.std.proofs.lemmas.Bool.{and_parts, and_from, or_from, eqb-true, eq-eqb, leb-false, lt-leb, cond-false, false_from_ne_true, cases_order, false≢true}
 use Rattle.std.proofs.lemmas.Option.{slice_get_within}
 use Rattle.rsim_base.specs.declared.memory.Access.{Access}
 use Rattle.order_checker.specs.declared.verdict.Rejected.{Rejected}
 use Rattle.order_checker.specs.Faults.{is_of, place_among, place_of, stray, stray_of}
-use Rattle.order_checker.proofs.FirstOnes.{IsLeast, least_is, least_at, least_none, least_none-at}
+use Rattle.order_checker.proofs.FirstOnes.{least_is, least_at, least_none, least_none-at}
 
 -- the line at place j is of access i of processor p
 pub record IsLineOf (lines : List Access) (p i j : ℕ) (e : Access) : Type 0 where

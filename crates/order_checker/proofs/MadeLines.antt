@@ -1,6 +1,6 @@
 -- The access that a step makes, and the line that doesn't differ from it.
-use Rattle.std.proofs.Common.{◌≡◌, ◌⊎◌, ◌==◌, ◌&&◌, ℕ, Bool, true, false, not, if◌then◌else◌, List, [], ◌∷◌, Option, None, Some, refl, sym, ap, inl, inr, ⊎_elim, ◌∙◌, arith}
-use Rattle.std.proofs.lemmas.Bool.{eqb-true, eq-eqb, not_from_true, cond-false, false≢true, and_parts}
+use Rattle.std.proofs.Common.{◌≡◌, ◌⊎◌, ◌==◌, ℕ, Bool, true, false, not, if◌then◌else◌, [], ◌∷◌, None, Some, refl, sym, ap, inl, inr, ◌∙◌, arith}
+use Rattle.std.proofs.lemmas.Bool.{eqb-true, eq-eqb}
 use Rattle.rsim_base.specs.Accesses.{loads, stores}
 use Rattle.rsim_base.specs.Bytes.{count_of}
 use Rattle.rsim_base.specs.declared.memory.Access.{Access}

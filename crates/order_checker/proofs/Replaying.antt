@@ -1,5 +1,5 @@
 -- A replay by the code, with one step more.
-use Rattle.std.proofs.Common.{◌≡◌, ◌⊎◌, ◌+◌, ◌<◌, ◌≤◌, ℕ, zero, suc, List, [], ◌∷◌, ◌++◌, length, map, Bool, true, false, if◌then◌else◌, IfSome, Option, None, Some, option_map, option_and_then, slice_get, Result, Ok, Err, refl, sym, ap, subst, inl, inr, ⊎_elim, ◌∙◌, add-one, arith}
+use Rattle.std.proofs.Common.{◌≡◌, ◌⊎◌, ◌+◌, ◌<◌, ◌≤◌, ℕ, zero, suc, List, [], ◌∷◌, ◌++◌, length, map, Bool, true, false, if◌then◌else◌, IfSome, Option, None, Some, option_map, option_and_then, slice_get, Ok, Err, refl, sym, ap, subst, inl, inr, ⊎_elim, ◌∙◌, add-one, arith}
 use Rattle.std.proofs.lemmas.Bool.{cases_lt}
 use Rattle.std.proofs.lemmas.List.{length_push}
 use Rattle.rsim_base.specs.Made as base
@@ -18,8 +18,8 @@ use Rattle.sparc_meaning.specs.declared.arch.Arch.{Arch}
 use Rattle.order_checker.specs.declared.verdict.Rejected.{Rejected}
 use Rattle.order_checker.specs.Faults.{is_of, place_of, replayed, followed, then_followed, then_after, next_step, step_fault, unless, loaded_of}
 use Rattle.order_checker.proofs.FirstOnes.{least_at}
-use Rattle.order_checker.specs.Programs.{kept, IsProgram, IsReplayed, IsReplaying, AreAtMost}
-use Rattle.order_checker.proofs.Lists.{append-nil, map-append_one, slice_get-append_left, slice_get_last, slice_get_some, Some-injective, Ok-injective}
+use Rattle.order_checker.specs.Programs.{kept, IsProgram, IsReplaying, AreAtMost}
+use Rattle.order_checker.proofs.Lists.{append-nil, map-append_one, slice_get-append_left, slice_get_last, slice_get_some, Ok-injective}
 use Rattle.order_checker.proofs.Replays.{step_fault_none}
 
 -- a fault stays

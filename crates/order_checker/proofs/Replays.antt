@@ -1,11 +1,11 @@
 -- A replay that has found no fault: its steps, its lines, and the run that it is.
-use Rattle.std.proofs.Common.{◌≡◌, ◌⊎◌, ℕ, zero, suc, Bool, true, false, if◌then◌else◌, List, [], ◌∷◌, ◌++◌, length, map, Option, None, Some, option_map, option_and_then, slice_get, Result, Ok, Err, refl, sym, ap, subst, inl, inr, ⊎_elim, ◌∙◌, arith}
+use Rattle.std.proofs.Common.{◌≡◌, ◌⊎◌, ℕ, zero, suc, Bool, true, false, if◌then◌else◌, List, [], ◌∷◌, ◌++◌, length, map, Option, None, Some, option_map, option_and_then, slice_get, Result, Ok, Err, refl, sym, ap, subst, inl, inr, ⊎_elim, ◌∙◌}
 use Rattle.rsim_base.specs.Accesses.{loads}
 use Rattle.rsim_base.specs.Made.{Made}
 use Rattle.rsim_base.specs.declared.memory.Access.{Access}
 use Rattle.elf64_load.specs.Image.{ImageView}
 use Rattle.order_certificate.specs.Certificate.{IsInText}
-use Rattle.sparc_meaning.specs.Arch.{boot, is_running}
+use Rattle.sparc_meaning.specs.Arch.{is_running}
 use Rattle.sparc_meaning.specs.Run.{Ran, run, advanced, after, accesses_of, made_after, uses_value}
 use Rattle.sparc_meaning.specs.Step.{step}
 use Rattle.sparc_meaning.specs.StepIgnores.{step_ignores}
@@ -14,8 +14,8 @@ use Rattle.sparc_meaning.specs.Stepped.{Stepped}
 use Rattle.sparc_meaning.specs.declared.acts.Act.{Act}
 use Rattle.order_checker.specs.declared.verdict.Part.{Part}
 use Rattle.order_checker.specs.declared.verdict.Rejected.{Rejected}
-use Rattle.order_checker.specs.declared.verdict.Rejected.TheVariants.{Differs, Ended}
-use Rattle.order_checker.specs.Faults.{place_of, differing, step_fault, unless, loaded_of, next_step, then_after, followed, then_followed, replayed, file_line}
+use Rattle.order_checker.specs.declared.verdict.Rejected.TheVariants.{Differs}
+use Rattle.order_checker.specs.Faults.{place_of, differing, step_fault, unless, loaded_of, then_after, followed, then_followed, replayed, file_line}
 use Rattle.order_checker.proofs.LinePlaces.{IsLineOf, line_of-place}
 use Rattle.order_checker.proofs.Lists.{append-nil, map-append_one, length-map_of, slice_get_last, slice_get_more, slice_get_past_end, Some-injective, Ok-injective}
 use Rattle.order_checker.proofs.MadeLines.{IsMade, act_cases, made_line}

@@ -1,13 +1,13 @@
 -- The byte that a load reads, by the last that it may read from, is the one that explains it.
-use Rattle.std.proofs.Common.{◌≡◌, ◌≢◌, ◌⊎◌, ◌^◌, ◌<◌, ◌≤◌, ◌==◌, ◌&&◌, ◌||◌, nat_lt, ℕ, Bool, true, false, not, if◌then◌else◌, List, length, slice_get, Option, None, Some, option_and_then, refl, sym, ap, subst, inl, inr, ⊎_elim, ◌∙◌, arith}
-use Rattle.std.proofs.lemmas.Bool.{and_parts, and_from, or_cases, or_left, or_right, eqb-true, eqb-false, eq-eqb, ne_eqb, ltb-true, lt-ltb, cases_lt, false≢true, false_from_ne_true, not-true, not_from_false, cases_Bool}
+use Rattle.std.proofs.Common.{◌≡◌, ◌^◌, ◌<◌, ◌≤◌, ◌==◌, ◌&&◌, ◌||◌, nat_lt, ℕ, true, not, List, length, slice_get, Option, None, Some, option_and_then, refl, sym, ap, inl, inr, ⊎_elim, ◌∙◌, arith}
+use Rattle.std.proofs.lemmas.Bool.{and_parts, and_from, or_cases, or_left, or_right, eqb-true, eqb-false, eq-eqb, ne_eqb, ltb-true, lt-ltb, cases_lt, false≢true, false_from_ne_true, not-true, not_from_false}
 use Rattle.std.proofs.lemmas.Option.{slice_get_within}
 use Rattle.rsim_base.specs.Accesses.{stores}
-use Rattle.rsim_base.specs.Bytes.{count_of, gap_of, IsByteOf}
+use Rattle.rsim_base.specs.Bytes.{count_of, gap_of}
 use Rattle.rsim_base.specs.ByteSets.{IsByteOf-from_gap, gap_of-IsByteOf, count_of-bounds}
 use Rattle.rsim_base.specs.declared.memory.Access.{Access}
 use Rattle.elf64_load.specs.Image.{ImageView, byte_at}
-use Rattle.order_checker.specs.Faults.{writes, is_earlier, may_read, byte_from, source_byte}
+use Rattle.order_checker.specs.Faults.{is_earlier, may_read, byte_from, source_byte}
 use Rattle.order_checker.specs.Firsts.{last}
 use Rattle.order_checker.specs.Values.{MayRead, IsSource, ExplainsByte, loaded_byte, stored_byte}
 use Rattle.order_checker.proofs.FirstOnes.{IsLast, last_cases, last_is, last_none}

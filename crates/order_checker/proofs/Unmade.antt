@@ -1,5 +1,5 @@
 -- Lines of accesses that were not made, one after another.
-use Rattle.std.proofs.Common.{◌≡◌, ◌⊎◌, ◌+◌, ◌<◌, ℕ, List, get_or, length, Option, None, Some, slice_get, Result, Ok, Err, refl, sym, ap, subst, inl, inr, ◌∙◌, add-one}
+use Rattle.std.proofs.Common.{◌≡◌, ◌⊎◌, ◌+◌, ◌<◌, ℕ, List, get_or, length, None, Some, Err, sym, ap, subst, inl, inr, ◌∙◌, add-one}
 use Rattle.std.proofs.lemmas.Option.{slice_get-get_or}
 use Rattle.rsim_base.specs.declared.memory.Access.{Access}
 use Rattle.elf64_load.specs.Image.{ImageView}

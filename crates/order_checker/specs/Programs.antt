@@ -1,5 +1,5 @@
 -- What a processor has made, as the code keeps it.
-use Rattle.std.specs.Prelude.{◌≡◌, ℕ, ◌<◌, ◌≤◌, List, [], ◌∷◌, length, map, slice_get, Option, None, Some, option_to_list, Result, Ok}
+use Rattle.std.specs.Prelude.{◌≡◌, ℕ, ◌<◌, ◌≤◌, List, [], length, map, slice_get, Option, option_to_list, Ok}
 use Rattle.rsim_base.specs.Made.{Made}
 use Rattle.rsim_base.specs.declared.memory.Access.{Access}
 use Rattle.order_axioms.specs.Counted.{counts}

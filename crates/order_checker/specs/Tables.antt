@@ -1,5 +1,5 @@
 -- Tables of where the lines of one processor's accesses stand.
-use Rattle.std.specs.Prelude.{◌≡◌, ℕ, ◌<◌, ◌==◌, nat_lt, nat_le, nat_eq, Bool, false, ◌&&◌, ◌||◌, if◌then◌else◌, List, length, slice_get, slice_index, slice_set, Option, None, Some, is_some}
+use Rattle.std.specs.Prelude.{◌≡◌, ℕ, ◌<◌, ◌==◌, nat_lt, nat_le, nat_eq, Bool, false, ◌||◌, if◌then◌else◌, List, length, slice_get, slice_index, slice_set, Option, None, Some, is_some}
 use Rattle.std.specs.HashMap.{get}
 use Rattle.rsim_base.specs.declared.memory.Access.{Access}
 use Rattle.order_checker.specs.declared.places.Table.{Table}

@@ -1,5 +1,4 @@
 -- The tables so far have no line.
-use Rattle.std.proofs.Common.{◌≡◌, ℕ, length, slice_get, None, Some}
 use Rattle.order_checker.specs.Tables.{AreTables}
 use Rattle.order_checker.proofs.places.empty_tables.Given as goal
 

@@ -1,5 +1,5 @@
 -- What was put into the table of the line's processor.
-use Rattle.std.proofs.Common.{◌≡◌, ◌⊎◌, refl, ap, inl, inr, ⊎_elim, ◌∙◌, Some, arith, length, slice_get}
+use Rattle.std.proofs.Common.{◌≡◌, refl, ap, inl, inr, ⊎_elim, ◌∙◌, Some, arith, length, slice_get}
 use Rattle.std.proofs.lemmas.Bool.{or_right}
 use Rattle.std.proofs.lemmas.Option.{slice_get_read}
 use Rattle.order_checker.specs.Tables.{has_line}

@@ -1,6 +1,5 @@
 -- The start, a step's place, its fault, and a step more.
-use Rattle.std.proofs.Common.{◌≡◌, ◌+◌, ◌++◌, ℕ, length, option_map, subst, sym, inr, ◌∙◌, arith}
-use Rattle.order_checker.specs.Faults.{place_of}
+use Rattle.std.proofs.Common.{◌≡◌, ◌+◌, ◌++◌, length, subst, sym, inr, ◌∙◌, arith}
 use Rattle.order_checker.specs.Programs.{kept, IsReplaying}
 use Rattle.order_checker.proofs.Replaying.{next_fault, replaying_start, replaying_more, place_below}
 use Rattle.order_checker.proofs.replay.replay.Goals as goal

@@ -1,5 +1,5 @@
 -- One number more.
-use Rattle.std.proofs.Common.{◌≡◌, ◌+◌, ◌++◌, ◌∷◌, [], ℕ, suc, subst, sym, add-one, arith}
+use Rattle.std.proofs.Common.{suc, subst, sym, add-one, arith}
 use Rattle.order_checker.specs.Standing.{IsWalked}
 use Rattle.order_checker.proofs.StillStanding.{walked_on}
 use Rattle.order_checker.proofs.walk.Walk.reach.Goals as goal
