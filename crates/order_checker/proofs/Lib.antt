@@ -1,0 +1,13 @@
+pub mod Clean
+pub mod FirstOnes
+pub mod Fitting
+pub mod LinePlaces
+pub mod Lists
+pub mod MadeLines
+pub mod Replaying
+pub mod Replays
+pub mod SourceBytes
+pub mod Steps
+pub mod StillStanding
+pub mod TableLines
+pub mod Unmade

@@ -1,0 +1,10 @@
+pub mod Faults
+pub mod Firsts
+pub mod Fit
+pub mod Laws
+pub mod Order
+pub mod Outcomes
+pub mod Programs
+pub mod Standing
+pub mod Tables
+pub mod Values

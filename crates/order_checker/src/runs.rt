@@ -1,0 +1,73 @@
+// The run of a processor, and the lines of accesses that it has not made.
+ghost use Rattle.std.specs.Prelude.{◌≡◌, ℕ, ◌<◌, ◌≤◌, None, Some, IfOk, OnOk, IfErr, length};
+ghost use Rattle.order_checker.specs.Faults.{unmade, unmade_of, place_of, replayed, run_fault_of};
+ghost use Rattle.order_checker.specs.Firsts.{first};
+ghost use Rattle.order_checker.specs.Outcomes.{IsFault};
+ghost use Rattle.order_checker.specs.Programs.{IsReplayed};
+ghost use Rattle.order_checker.specs.Tables.{place_in};
+
+use crate::places::{FIRST_LINE, Table};
+use crate::replay::{Program, replay};
+use crate::verdict::Rejected;
+use elf64_load::Image;
+use rsim_base::{Access, Node};
+use std::alloc::Global;
+
+/// What the steps that processor `p` retired have made.
+///
+/// # Errors
+/// The first fault of a step: `Ended`, `Missing` or `Differs`; else the first line of an access that it has not made;
+/// `Memory`.
+pub fn run(
+    alloc: Global,
+    image: &Image,
+    lines: &[Access],
+    table: &Table,
+    p: Node,
+    processors: u8,
+    steps: u32,
+) -> Result<Program, Rejected>
+    requires among { p.0 < processors }
+    requires most { processors ≤ 64 }
+    requires steps { steps ≤ 8000000 }
+    requires lines { length lines.now ≤ 8000000 }
+    requires table { (i : ℕ) → place_in table.now i ≡ place_of lines.now p.0 i }
+    ensures ran { IfOk result (λ r. IsReplayed image.now processors lines.now p.0 steps r.places.items r.fences.items) }
+    ensures none { OnOk result (run_fault_of lines.now p.0 (replayed image.now processors lines.now p.0 steps) ≡ None) }
+    ensures fault { IfErr result (IsFault (run_fault_of lines.now p.0 (replayed image.now processors lines.now p.0 steps))) }
+{
+    let program = match replay(alloc, image, lines, table, p, processors, steps) {
+        Ok(program) => program,
+        Err(fault) => return Err(fault),
+    };
+    match first_unmade(lines, p, program.places.len()) {
+        None => Ok(program),
+        Some(fault) => Err(fault),
+    }
+}
+
+// The first line of an access that the processor has not made, of which it has made so many.
+fn first_unmade(lines: &[Access], p: Node, count: usize) -> Option<Rejected>
+    requires { length lines.now ≤ 8000000 }
+    ensures { result ≡ first (unmade lines.now p.0 count) (length lines.now) }
+{
+    for (place, line) in lines.iter().enumerate() {
+        match fault_of(line, place as u32, p, count) {
+            Some(fault) => return Some(fault),
+            None => {}
+        }
+    }
+    None
+}
+
+// The fault of a line, if its access was not made.
+fn fault_of(line: &Access, place: u32, p: Node, count: usize) -> Option<Rejected>
+    requires { place < 8000000 }
+    ensures { result ≡ unmade_of p.0 count place (Some line.now) }
+{
+    if line.node.0 == p.0 && line.index as usize >= count {
+        Some(Rejected::Foreign(place + FIRST_LINE))
+    } else {
+        None
+    }
+}
