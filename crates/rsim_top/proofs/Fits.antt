@@ -5,8 +5,8 @@ use Rattle.rsim_base.specs.declared.memory.Model.{Model}
 use Rattle.elf64_load.specs.Image.{ImageView}
 use Rattle.rsim_base.specs.Made.{Made}
 use Rattle.rsim_top.specs.declared.processor.Processor.{Processor}
-use Rattle.rsim_top.specs.Fit.{Fit}
-use Rattle.rsim_top.specs.Order.{Respects, IsEntryOf, made_at}
+use Rattle.order_checker.specs.Fit.{Fit}
+use Rattle.order_checker.specs.Order.{Respects, IsEntryOf, made_at}
 use Rattle.rsim_top.specs.Processor.{IsSound, loaded_values}
 use Rattle.rsim_top.proofs.LastStores.{AreNumbered}
 use Rattle.rsim_top.proofs.Places.{slice_get_mapped, slice_get_unmapped}

@@ -8,7 +8,7 @@ use Rattle.rsim_base.specs.ByteSets.{IsByteOf-from_gap, gap_of-IsByteOf, count_o
 use Rattle.elf64_load.specs.Image.{ImageView, byte_at}
 use Rattle.rsim_base.specs.Accesses.{loads, stores}
 use Rattle.rsim_top.specs.Processor.{IsNumbered, last_stored}
-use Rattle.rsim_top.specs.Values.{MayRead, ExplainsByte, Explains, loaded_byte, stored_byte}
+use Rattle.order_checker.specs.Values.{MayRead, ExplainsByte, Explains, loaded_byte, stored_byte}
 use Rattle.rsim_top.proofs.Places.{Some-injective, slice_get-append_left, slice_get_more}
 
 abbrev pub AreNumbered : List Access → Type 0

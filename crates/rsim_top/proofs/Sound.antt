@@ -24,7 +24,7 @@ use Rattle.rsim_top.specs.declared.processor.Processor.{Processor}
 use Rattle.rsim_base.specs.Accesses.{loads, stores}
 use Rattle.rsim_top.specs.Memory.{byte_in, IsValueAt, FindsMemory, IsStored, IsInMemory}
 use Rattle.rsim_top.specs.Processor.{IsNumbered, IsSound, loaded_values, last_stored}
-use Rattle.rsim_top.specs.Values.{Explains, loaded_byte, stored_byte}
+use Rattle.order_checker.specs.Values.{Explains, loaded_byte, stored_byte}
 use Rattle.rsim_top.proofs.Places.{slice_get_more}
 use Rattle.rsim_top.proofs.LastStores.{AreNumbered, byte_in_memory, explains_more}
 use Rattle.rsim_top.proofs.Runs.{run_more_values, next_value, advance, value_of}

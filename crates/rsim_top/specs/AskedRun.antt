@@ -8,7 +8,7 @@ use Rattle.elf64_load.specs.Faults.{Loads}
 use Rattle.sparc_meaning.specs.Arch.{is_running}
 use Rattle.sparc_meaning.specs.Run.{Ran}
 use Rattle.order_certificate.specs.OrderText.{IsPrintable}
-use Rattle.rsim_top.specs.Fit.{Fit}
+use Rattle.order_checker.specs.Fit.{Fit}
 
 -- The settings that a text gives, the image that a file gives, so many steps of one processor, and an order that fits them
 -- under the settings' model, of no more accesses than steps, and such that its lines can hold these. The steps are as many as

@@ -1,14 +1,11 @@
 pub mod Answers
 pub mod AskedRun
 pub mod Causes
-pub mod Fit
 pub mod Machine
 pub mod Memory
-pub mod Order
 pub mod Outside
 pub mod Parts
 pub mod Processor
 pub mod Refusals
 pub mod ReportText
 pub mod Steps
-pub mod Values

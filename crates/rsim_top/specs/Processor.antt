@@ -9,7 +9,7 @@ use Rattle.rsim_top.specs.declared.processor.Processor.{Processor}
 use Rattle.rsim_base.specs.Accesses.{stores}
 use Rattle.rsim_top.specs.Memory.{byte_in}
 use Rattle.order_certificate.specs.OrderText.{IsPrintable}
-use Rattle.rsim_top.specs.Values.{Explains, stored_byte}
+use Rattle.order_checker.specs.Values.{Explains, stored_byte}
 
 abbrev pub loaded_values : List Access → List ℕ
 loaded_values order = map (λ e. e.loaded) order
