@@ -120,7 +120,7 @@ run_is image c p ran clean at =
 
 -- ---- each line is of an access that was made
 
-count_above : (lines : List Access) (p count j : ℕ) (e : Access) → slice_get lines j ≡ Some e → e.node.0 ≡ p → unmade lines p count j ≡ None → e.index < count
+pub count_above : (lines : List Access) (p count j : ℕ) (e : Access) → slice_get lines j ≡ Some e → e.node.0 ≡ p → unmade lines p count j ≡ None → e.index < count
 count_above lines p count j e at node none = by_test (e.node.0 == p) (nat_le count e.index) _ (eq-eqb e.node.0 p node) refl (ap (unmade_of p count j) (sym at) ∙ none)
   where
     by_test : (a b : Bool) (r : Rejected) → a ≡ true → nat_le count e.index ≡ b → (if a && b then Some r else None) ≡ None → e.index < count

@@ -1,9 +1,16 @@
+pub mod Aligned
+pub mod AtLines
 pub mod Clean
 pub mod FirstOnes
 pub mod Fitting
 pub mod LinePlaces
+pub mod Late
+pub mod Latest
+pub mod LineSteps
 pub mod Lists
 pub mod MadeLines
+pub mod Outcomes
+pub mod ReadWhole
 pub mod Replaying
 pub mod Replays
 pub mod SourceBytes
@@ -11,3 +18,5 @@ pub mod Steps
 pub mod StillStanding
 pub mod TableLines
 pub mod Unmade
+pub mod Verdicts
+pub mod Written

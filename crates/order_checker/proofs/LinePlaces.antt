@@ -5,6 +5,7 @@ use Rattle.std.proofs.lemmas.Option.{slice_get_within}
 use Rattle.rsim_base.specs.declared.memory.Access.{Access}
 use Rattle.order_checker.specs.declared.verdict.Rejected.{Rejected}
 use Rattle.order_checker.specs.Faults.{is_of, place_among, place_of, stray, stray_of}
+use Rattle.order_checker.proofs.Lists.{Some-injective}
 use Rattle.order_checker.proofs.FirstOnes.{least_is, least_at, least_none, least_none-at}
 
 -- the line at place j is of access i of processor p
@@ -27,6 +28,13 @@ is_of-line lines p i j e line = ap (is_of p i) line.stands ∙ and_from (e.node.
 
 pub line_of-place : (lines : List Access) (p i j : ℕ) → place_of lines p i ≡ Some j → (e : Access) × IsLineOf lines p i j e
 line_of-place lines p i j is = line_of-is_of lines p i j (least_at (λ k. is_of p i (slice_get lines k)) (length lines) j is).passes
+
+-- and it is of that access alone
+pub place_is : (lines : List Access) (p i j : ℕ) (e : Access) → place_of lines p i ≡ Some j → slice_get lines j ≡ Some e → (e.node.0 ≡ p) × (e.index ≡ i)
+place_is lines p i j e is at = same (line_of-place lines p i j is)
+  where
+    same : (f : Access) × IsLineOf lines p i j f → (e.node.0 ≡ p) × (e.index ≡ i)
+    same (f, line) = let e_is : e ≡ f = Some-injective (sym at ∙ line.stands) in (ap (λ (x : Access). x.node.0) e_is ∙ line.node, ap (λ (x : Access). x.index) e_is ∙ line.index)
 
 -- no two lines are of one access
 pub record AreOnce (lines : List Access) : Type 0 where

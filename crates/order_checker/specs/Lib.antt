@@ -1,3 +1,4 @@
+pub mod Checked
 pub mod Faults
 pub mod Firsts
 pub mod Fit
@@ -8,3 +9,4 @@ pub mod Programs
 pub mod Standing
 pub mod Tables
 pub mod Values
+pub mod Walking

@@ -1,15 +1,19 @@
 // The run of a processor, and the lines of accesses that it has not made.
 ghost use Rattle.std.specs.Prelude.{◌≡◌, ℕ, ◌<◌, ◌≤◌, None, Some, IfOk, OnOk, IfErr, length};
-ghost use Rattle.order_checker.specs.Faults.{unmade, unmade_of, place_of, replayed, run_fault_of};
+ghost use Rattle.order_certificate.specs.Certificate.{IsCertificate};
+ghost use Rattle.order_checker.specs.Faults.{unmade, unmade_of, place_of, replayed, run_fault, run_fault_of};
 ghost use Rattle.order_checker.specs.Firsts.{first};
 ghost use Rattle.order_checker.specs.Outcomes.{IsFault};
 ghost use Rattle.order_checker.specs.Programs.{IsReplayed};
-ghost use Rattle.order_checker.specs.Tables.{place_in};
+ghost use Rattle.order_checker.specs.Tables.{AreTables, place_in};
+ghost use Rattle.order_checker.specs.Walking.{AreWalks, IsWalk};
 
 use crate::places::{FIRST_LINE, Table};
 use crate::replay::{Program, replay};
 use crate::verdict::Rejected;
+use crate::walk::Walk;
 use elf64_load::Image;
+use order_certificate::Certificate;
 use rsim_base::{Access, Node};
 use std::alloc::Global;
 
@@ -43,6 +47,65 @@ pub fn run(
     match first_unmade(lines, p, program.places.len()) {
         None => Ok(program),
         Some(fault) => Err(fault),
+    }
+}
+
+/// What each processor has made, with a walk over the lines that stands before the first of them.
+///
+/// # Errors
+/// The fault of the first processor that has one: `Ended`, `Missing` or `Differs` by step, else `Foreign`; `Memory`.
+pub fn run_all(
+    alloc: Global,
+    image: &Image,
+    order: &Certificate,
+    tables: &[Table],
+) -> Result<Vec<Walk>, Rejected>
+    requires certificate { IsCertificate order.now }
+    requires tables { AreTables order.now.lines order.now.processors (length order.now.lines) tables.now }
+    ensures walks { IfOk result (λ walks. AreWalks image.now order.now order.now.processors 0 walks.items) }
+    ensures none { OnOk result (first (run_fault image.now order.now) order.now.processors ≡ None) }
+    ensures fault { IfErr result (IsFault (first (run_fault image.now order.now) order.now.processors)) }
+{
+    let mut walks = Vec::new(alloc);
+    for p in 0..order.processors {
+        let walk = match start(alloc, image, order, &tables[p as usize], p) {
+            Ok(walk) => walk,
+            Err(fault) => return Err(fault),
+        };
+        match walks.push(walk) {
+            Ok(()) => {}
+            Err(_) => return Err(Rejected::Memory),
+        }
+    }
+    Ok(walks)
+}
+
+// What processor `p` has made, with its walk.
+fn start(
+    alloc: Global,
+    image: &Image,
+    order: &Certificate,
+    table: &Table,
+    p: u8,
+) -> Result<Walk, Rejected>
+    requires certificate { IsCertificate order.now }
+    requires among { p < order.now.processors }
+    requires table { (i : ℕ) → place_in table.now i ≡ place_of order.now.lines p i }
+    ensures walk { IfOk result (IsWalk image.now order.now p 0) }
+    ensures fault { IfErr result (IsFault (run_fault image.now order.now p)) }
+{
+    let steps = order.counts[p as usize];
+    match run(
+        alloc,
+        image,
+        &order.lines,
+        table,
+        Node(p),
+        order.processors,
+        steps,
+    ) {
+        Ok(program) => Ok(Walk::new(alloc, program)),
+        Err(fault) => Err(fault),
     }
 }
 

@@ -1,7 +1,11 @@
 // The walk over the lines, as one processor sees it.
-ghost use Rattle.std.specs.Prelude.{◌≡◌, ℕ, ◌+◌, ◌<◌, ◌≤◌, List, [], length, OnOk};
+ghost use Rattle.std.specs.Prelude.{◌≡◌, [], ℕ, ◌+◌, ◌<◌, ◌≤◌, List, find, length, nat_lt, slice_get, true, OnOk};
+ghost use Rattle.std.specs.List.{remove, take_while};
+ghost use Rattle.order_checker.specs.Faults.{writes as writes_byte};
+ghost use Rattle.order_checker.specs.Walking.{later as later_of};
 
-use rsim_base::NoMemory;
+use crate::replay::Program;
+use rsim_base::{Access, Model, NoMemory};
 use std::alloc::Global;
 use std::collections::VecDeque;
 
@@ -9,18 +13,22 @@ use std::collections::VecDeque;
 /// ones that are left, whose lines are still to come, and so are the lines of all others.
 #[derive(Drop)]
 pub struct Walk {
+    program: Program,
     next: u32,
     left: VecDeque<u32>,
 }
 
 impl Walk {
     ghost use Rattle.order_checker.specs.Standing.{IsWalked};
+    ghost use Rattle.order_checker.specs.Walking.{is_needed_by, latest_store};
 
     /// Before the first line.
-    pub fn new(alloc: Global) -> Walk
-        ensures { (places : List ℕ) → IsWalked places 0 result.next result.left.items }
+    pub fn new(alloc: Global, program: Program) -> Walk
+        ensures program { result.program ≡ program }
+        ensures walked { IsWalked program.places.items 0 result.next result.left.items }
     {
         Walk {
+            program,
             next: 0,
             left: VecDeque::new(alloc),
         }
@@ -31,6 +39,7 @@ impl Walk {
         requires { i < 8000000 }
         ensures walked { OnOk result ((places : List ℕ) (j : ℕ) → i < length places → IsWalked places j self.old.next self.old.left.items → IsWalked places j self.new.next self.new.left.items) }
         ensures reached { OnOk result (i < self.new.next) }
+        ensures same { self.new.program ≡ self.old.program }
     {
         while self.next <= i {
             match self.left.push_back(self.next) {
@@ -40,5 +49,88 @@ impl Walk {
             self.next += 1;
         }
         Ok(())
+    }
+
+    /// Of the accesses before this one that are left, the first that must stand before it.
+    pub fn first_needed(&self, model: Model, lines: &[Access], line: &Access) -> Option<u32>
+        ensures { result ≡ find (is_needed_by model lines.now self.now.program line.now) (take_while (λ k. nat_lt k line.now.index) self.now.left.items) }
+    {
+        self.left
+            .iter()
+            .copied()
+            .take_while(|k| *k < line.index)
+            .find(|k| self.program.is_needed(model, lines, line, *k))
+    }
+
+    /// Whether none of the accesses before access `i` is left.
+    pub fn is_next(&self, i: u32) -> bool
+        ensures { result ≡ true → take_while (λ k. nat_lt k i) self.now.left.items ≡ [] }
+    {
+        self.left.front().is_none_or(|k| *k >= i)
+    }
+
+    /// Of the accesses before access `i` that are left, where the line stands of the one that writes the byte and whose
+    /// line stands last.
+    pub fn latest_store(&self, lines: &[Access], i: u32, byte: u64) -> Option<u32>
+        ensures { result ≡ latest_store lines.now self.now.program.places.items byte (take_while (λ k. nat_lt k i) self.now.left.items) }
+    {
+        self.left
+            .iter()
+            .copied()
+            .take_while(|k| *k < i)
+            .fold(None, |latest, k| {
+                later(lines, byte, latest, self.place(k))
+            })
+    }
+
+    // Where the line of access `k` stands.
+    fn place(&self, k: u32) -> Option<u32>
+        ensures { result ≡ slice_get self.now.program.places.items k }
+    {
+        self.program.places.get(k as usize).copied()
+    }
+
+    /// Goes on over the line of access `i`, which is left.
+    pub fn pass(&mut self, i: u32)
+        requires { length (take_while (λ k. nat_lt k i) self.old.left.items) < length self.old.left.items }
+        ensures left { self.new.left.items ≡ remove self.old.left.items (length (take_while (λ k. nat_lt k i) self.old.left.items)) }
+        ensures next { self.new.next ≡ self.old.next }
+        ensures same { self.new.program ≡ self.old.program }
+    {
+        let at = self.below(i);
+        self.left.remove(at);
+    }
+
+    // How many accesses before access `i` are left.
+    fn below(&self, i: u32) -> usize
+        ensures { result ≡ length (take_while (λ k. nat_lt k i) self.now.left.items) }
+    {
+        self.left.iter().copied().take_while(|k| *k < i).count()
+    }
+}
+
+// The later one of two places, of which the second counts where its line writes the byte.
+fn later(lines: &[Access], byte: u64, latest: Option<u32>, place: Option<u32>) -> Option<u32>
+    ensures { result ≡ later_of lines.now byte latest place }
+{
+    let Some(place) = place else {
+        return latest;
+    };
+    if !writes(lines, place, byte) {
+        return latest;
+    }
+    match latest {
+        Some(latest) if latest >= place => Some(latest),
+        _ => Some(place),
+    }
+}
+
+// Whether the line at a place writes the byte.
+fn writes(lines: &[Access], place: u32, byte: u64) -> bool
+    ensures { result ≡ writes_byte byte (slice_get lines.now place) }
+{
+    match lines.get(place as usize) {
+        Some(line) => line.kind.stores() && byte.wrapping_sub(line.addr.0) < line.size.count(),
+        None => false,
     }
 }

@@ -9,8 +9,9 @@ use Rattle.sparc_meaning.specs.declared.acts.Act.TheVariants.{Nothing, Load, Sto
 use Rattle.sparc_meaning.specs.declared.acts.Want.{Want}
 use Rattle.sparc_meaning.specs.declared.acts.Want.TheVariants as want
 use Rattle.sparc_meaning.specs.Acts.{HasFound, reads}
-use Rattle.rsim_top.specs.declared.memory.Memory.{Memory}
-use Rattle.rsim_top.specs.Memory.{FindsMemory, IsValueAt}
+use Rattle.image_memory.specs.declared.memory.Memory.{Memory}
+use Rattle.image_memory.specs.Memory.{IsValueAt}
+use Rattle.rsim_top.specs.Memory.{FindsMemory}
 
 -- an access that is wanted, by its place
 abbrev pub WantsAt : Want → Addr → Size → Type 0

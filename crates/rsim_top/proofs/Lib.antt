@@ -1,7 +1,5 @@
 pub mod AnswerCases
 pub mod Causes
-pub mod Digits
-pub mod Doublewords
 pub mod Failing
 pub mod Fetching
 pub mod Fits
@@ -15,4 +13,3 @@ pub mod Setups
 pub mod Sound
 pub mod Stored
 pub mod Texts
-pub mod Writes

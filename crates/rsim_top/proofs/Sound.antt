@@ -19,10 +19,11 @@ use Rattle.sparc_meaning.specs.Arch.{is_running, IsSound as IsSoundState}
 use Rattle.sparc_meaning.specs.Run.{Ran, run, after, accesses_of, output_of, made_after, uses_value}
 use Rattle.sparc_meaning.specs.Step.{step}
 use Rattle.sparc_meaning.specs.StepIgnores.{step_ignores}
-use Rattle.rsim_top.specs.declared.memory.Memory.{Memory}
+use Rattle.image_memory.specs.declared.memory.Memory.{Memory}
 use Rattle.rsim_top.specs.declared.processor.Processor.{Processor}
 use Rattle.rsim_base.specs.Accesses.{loads, stores}
-use Rattle.rsim_top.specs.Memory.{byte_in, IsValueAt, FindsMemory, IsStored, IsInMemory}
+use Rattle.image_memory.specs.Memory.{byte_in, IsValueAt}
+use Rattle.rsim_top.specs.Memory.{FindsMemory, IsStored, IsInMemory}
 use Rattle.rsim_top.specs.Processor.{IsNumbered, IsSound, loaded_values, last_stored}
 use Rattle.order_checker.specs.Values.{Explains, loaded_byte, stored_byte}
 use Rattle.rsim_top.proofs.Places.{slice_get_more}

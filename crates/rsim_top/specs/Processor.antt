@@ -7,7 +7,7 @@ use Rattle.sparc_meaning.specs.Arch.{is_running, IsSound as IsSoundState}
 use Rattle.sparc_meaning.specs.Run.{Ran, run}
 use Rattle.rsim_top.specs.declared.processor.Processor.{Processor}
 use Rattle.rsim_base.specs.Accesses.{stores}
-use Rattle.rsim_top.specs.Memory.{byte_in}
+use Rattle.image_memory.specs.Memory.{byte_in}
 use Rattle.order_certificate.specs.OrderText.{IsPrintable}
 use Rattle.order_checker.specs.Values.{Explains, stored_byte}
 

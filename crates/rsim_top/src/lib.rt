@@ -2,7 +2,6 @@
 #![tactic(auto)]
 
 mod command;
-mod memory;
 mod order_file;
 mod processor;
 mod refusal;

@@ -7,9 +7,9 @@ ghost use Rattle.sparc_meaning.specs.Run.{output_of, accesses_of};
 ghost use Rattle.sparc_meaning.specs.Step.{step as step_of, instr_at as spec_instr_at};
 ghost use Rattle.rsim_top.specs.Memory.{FindsMemory, IsInMemory, IsStored};
 
-use crate::memory::Memory;
 use crate::text::push_decimal;
 use elf64_load::Image;
+use image_memory::Memory;
 use rsim_base::{Access, Addr, Kind, NoMemory, Node, Size};
 use sparc_decode::Instr;
 use sparc_meaning::{Act, Arch, Spoken, Want, boot, instr_at, peek_at, step_at};

@@ -2,7 +2,7 @@ use Rattle.std.proofs.Common.{[], length, unwrap_or, refl, sym, ap, ◌∙◌, a
 use Rattle.elf64_load.specs.Image.{byte_at}
 use Rattle.rsim_base.specs.Made.{no_fences}
 use Rattle.sparc_meaning.specs.Arch.{boot}
-use Rattle.rsim_top.specs.Memory.{of_doubleword}
+use Rattle.image_memory.specs.Memory.{of_doubleword}
 use Rattle.rsim_top.specs.Processor.{last_stored}
 use Rattle.rsim_top.proofs.Places.{slice_get_none}
 use Rattle.rsim_top.proofs.processor.Processor.boot.Goals as goal
