@@ -8,5 +8,6 @@ pub mod Outcomes
 pub mod Programs
 pub mod Standing
 pub mod Tables
+pub mod Told
 pub mod Values
 pub mod Walking
