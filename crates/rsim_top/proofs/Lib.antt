@@ -2,6 +2,8 @@ pub mod AnswerCases
 pub mod Causes
 pub mod Failing
 pub mod Fetching
+pub mod FileAnswers
+pub mod FileCauses
 pub mod Fits
 pub mod Found
 pub mod Hex

@@ -1,6 +1,6 @@
 -- The answers of `run_command`: what each of them says of the command line, the files and the failures,
 -- and what stands after it.
-use Rattle.std.specs.Prelude.{◌≡◌, ◌⊎◌, List, [], Option, Some, None, unwrap_or, Result, Ok, Err, ℕ}
+use Rattle.std.specs.Prelude.{◌≡◌, ◌⊎◌, List, Result, Ok, Err, ℕ}
 use Rattle.command_words.specs.declared.fault.WordsFault.{WordsFault}
 use Rattle.command_words.specs.Asked.{RunAsked, asked_of_run, AskedExecutable, file, generated}
 use Rattle.rsim_top.specs.declared.command.Reported.{Reported}
@@ -10,7 +10,8 @@ use Rattle.rsim_top.specs.declared.refusal.Refusal.TheVariants.{Words, Unbuilt, 
 use Rattle.rsim_top.specs.AskedRun.{AskedRun}
 use Rattle.rsim_top.specs.Machine.{order_of, report_of}
 use Rattle.rsim_top.specs.Outside.{Outside, IsUntouched, HasFile, HasPrefixOfFile, HasWritten, HasPrefixWritten, MayFail}
-use Rattle.rsim_top.specs.Steps.{longest_config, IsFetched, fetch_refusal, first_refusal}
+use Rattle.rsim_top.specs.Steps.{run_files}
+use Rattle.rsim_top.specs.TwoFiles.{LacksMemory, AnswersFiles}
 
 abbrev pub Answer : Type 0
 Answer = Result Reported Refusal
@@ -52,28 +53,9 @@ AnswersRun old new want text exe (Err Memory) = StopsAtOrder old new want text e
 -- no other answer is given
 AnswersRun old new want text exe (Err _) = ⊥
 
--- What the two fetches came to. The executable is fetched only after a configuration that is not refused for its length.
-pub record Fetched (old new : Outside) (config_name exe_name : List ℕ) : Type 0 where
-  pub text : Option (List ℕ)
-  pub exe : Option (List ℕ)
-  pub is_text : IsFetched old.shelf new.shelf config_name text
-  pub is_exe : fetch_refusal which.Config longest_config text ≡ None → IsFetched old.shelf new.shelf exe_name exe
-
--- The first refusal is answered, and all is as before; without one it is as above.
-abbrev pub AnswersFetched : Outside → Outside → RunAsked → List ℕ → List ℕ → Option Refusal → Answer → Type 0
-AnswersFetched old new want text exe (Some why) result = (result ≡ Err why) × IsUntouched old new
-AnswersFetched old new want text exe None result = AnswersRun old new want text exe result
-
--- Memory was short before the order was made: all is as before.
-abbrev pub LacksMemory : Outside → Outside → Answer → Type 0
-LacksMemory old new result = (result ≡ Err Memory) × IsUntouched old new
-
 -- the executable is the file of this name
 abbrev pub AnswersFile : Outside → Outside → RunAsked → List ℕ → Answer → Type 0
-AnswersFile old new want name result =
-    LacksMemory old new result
-    ⊎ ((came : Fetched old new want.config name)
-    × AnswersFetched old new want (unwrap_or came.text []) (unwrap_or came.exe []) (first_refusal want.cycles came.text came.exe) result)
+AnswersFile old new want name result = AnswersFiles (AnswersRun old new want) old new (run_files want.cycles want.config name) result
 
 -- Executables are not generated yet.
 abbrev pub AnswersExecutable : Outside → Outside → RunAsked → AskedExecutable → Answer → Type 0

@@ -1,6 +1,7 @@
 pub mod Answers
 pub mod AskedRun
 pub mod Causes
+pub mod FileCauses
 pub mod Machine
 pub mod Memory
 pub mod Outside
@@ -9,3 +10,4 @@ pub mod Processor
 pub mod Refusals
 pub mod ReportText
 pub mod Steps
+pub mod TwoFiles

@@ -1,5 +1,5 @@
 -- Memory around the steps of a processor.
-use Rattle.std.specs.Prelude.{◌≡◌, ◌^◌, ◌<◌, Unit}
+use Rattle.std.specs.Prelude.{◌≡◌, ◌^◌, ◌<◌}
 use Rattle.rsim_base.specs.Bytes.{FitsIn}
 use Rattle.elf64_load.specs.Image.{ImageView}
 use Rattle.image_memory.specs.Memory.{IsValueAt, IsWritten}

@@ -15,7 +15,8 @@ use Rattle.rsim_top.specs.declared.refusal.Refusal.TheVariants.{Write, Memory}
 use Rattle.rsim_top.specs.declared.processor.Processor.{Processor}
 use Rattle.rsim_top.specs.Outside.{Shelf, Sink, HasFile, HasPrefixOfFile, HasWritten, HasPrefixWritten, MayFail}
 use Rattle.rsim_top.specs.Processor.{IsOver}
-use Rattle.rsim_top.specs.Steps.{IsFetched, fetch_refusal, setup_refusal, image_refusal}
+use Rattle.rsim_top.specs.Steps.{setup_refusal, image_refusal}
+use Rattle.rsim_top.specs.TwoFiles.{IsFetched, fetch_refusal}
 
 -- what words that were read ask for
 abbrev pub asked_by : RunWords → RunAsked

@@ -1,41 +1,23 @@
--- The steps of a run before anything is written, and what each of them refuses.
-use Rattle.std.specs.Prelude.{◌≡◌, ℕ, ◌*◌, ◌==◌, not, nat_le, nat_lt, IsTrue, List, [], length, Option, Some, None, option_map, unwrap_or, if◌then◌else◌, Bool, IfSome}
-use Rattle.std.specs.FinMap.{get}
+-- The steps of the commands before anything is written, and what each of them refuses.
+use Rattle.std.specs.Prelude.{ℕ, ◌*◌, ◌==◌, not, nat_le, List, Option, option_map}
 use Rattle.std.specs.Option.{option_or}
-use Rattle.rsim_io.specs.Faults.{Rose}
 use Rattle.machine_config.specs.Faults.{first_fault as config_fault, given}
 use Rattle.machine_config.specs.Keys.{processors, retire_width}
 use Rattle.elf64_load.specs.Faults.{first_fault as elf_fault}
-use Rattle.rsim_top.specs.declared.refusal.File.{File}
 use Rattle.rsim_top.specs.declared.refusal.File.TheVariants as file
 use Rattle.rsim_top.specs.declared.refusal.Refusal.{Refusal}
 use Rattle.rsim_top.specs.declared.refusal.Refusal.TheVariants as refusal
-use Rattle.rsim_top.specs.Outside.{Shelf}
+use Rattle.rsim_top.specs.TwoFiles.{TwoFiles, when}
 
--- the longest configuration and the longest executable, in bytes
+-- the longest configuration, executable and order, in bytes
 abbrev pub longest_config : ℕ
 longest_config = 65536
 
 abbrev pub longest_exe : ℕ
 longest_exe = 16777216
 
--- ---- fetching
-
--- What a fetch came to: the file's bytes, or nothing where it failed. It fails only where the shelf's count of faults rose,
--- and on a sure shelf only for a name that is not held.
-abbrev pub IsFetched : Shelf → Shelf → List ℕ → Option (List ℕ) → Type 0
-IsFetched old new name (Some bytes) = IfSome old.files (λ files. get files name ≡ Some bytes)
-IsFetched old new name None = Rose old.faults new.faults × (IsTrue old.is_sure → IfSome old.files (λ files. get files name ≡ None))
-
--- ---- refusals
-
-abbrev pub when : Bool → Refusal → Option Refusal
-when holds why = if holds then Some why else None
-
--- a file that could not be read, and one that is too long
-abbrev pub fetch_refusal : File → ℕ → Option (List ℕ) → Option Refusal
-fetch_refusal which limit None = Some (refusal.Read which)
-fetch_refusal which limit (Some bytes) = when (nat_lt limit (length bytes)) (refusal.Big which)
+abbrev pub longest_order : ℕ
+longest_order = 1073741824
 
 -- a configuration with a fault, one with which the run may retire more than 8,000,000 instructions, and one that asks for
 -- several processors, which are not built yet
@@ -49,10 +31,26 @@ setup_refusal cycles text =
 abbrev pub image_refusal : List ℕ → Option Refusal
 image_refusal exe = option_map refusal.Elf (elf_fault exe)
 
--- the first refusal of what was fetched as the configuration and as the executable, in the order of the steps
-abbrev pub first_refusal : ℕ → Option (List ℕ) → Option (List ℕ) → Option Refusal
-first_refusal cycles text exe =
-    option_or (fetch_refusal file.Config longest_config text)
-    (option_or (fetch_refusal file.Exe longest_exe exe)
-    (option_or (setup_refusal cycles (unwrap_or text []))
-    (image_refusal (unwrap_or exe []))))
+-- what `rsim` fetches, and refuses before a run of so many cycles
+abbrev pub run_files : ℕ → List ℕ → List ℕ → TwoFiles
+run_files cycles config exe = record {
+  first = file.Config;
+  first_name = config;
+  first_limit = longest_config;
+  second = file.Exe;
+  second_name = exe;
+  second_limit = longest_exe;
+  refuses = λ text bytes. option_or (setup_refusal cycles text) (image_refusal bytes);
+}
+
+-- what `rsimcheck` fetches, and refuses before the check
+abbrev pub check_files : List ℕ → List ℕ → TwoFiles
+check_files exe order = record {
+  first = file.Exe;
+  first_name = exe;
+  first_limit = longest_exe;
+  second = file.Order;
+  second_name = order;
+  second_limit = longest_order;
+  refuses = λ bytes text. image_refusal bytes;
+}

@@ -1,49 +1,53 @@
 use Rattle.std.proofs.lemmas.Result.{err_from_is_err_and}
-use Rattle.rsim_top.proofs.AnswerCases.{AnswersFile-no_text, AnswersFile-no_exe, AnswersFile-refused, AnswersFile-at_order, AnswersFile-at_report, AnswersFile-at_end, Both-from, Made-from, refused_setup, refused_image}
+use Rattle.rsim_top.proofs.AnswerCases.{AnswersFile-at_order, AnswersFile-at_report, AnswersFile-at_end, Made-from, refused_setup, refused_image}
+use Rattle.rsim_top.specs.Answers.{AnswersRun}
+use Rattle.rsim_top.specs.Parts.{asked_by}
+use Rattle.rsim_top.specs.Steps.{run_files}
+use Rattle.rsim_top.proofs.FileAnswers.{no_first_file, no_second_file, both_refused, Both-from}
 use Rattle.rsim_top.proofs.command.run_executable.Goals as goal
 
 pub returns-in_err-text-clause-answer : goal.returns-in_err-text-clause-answer
 returns-in_err-text-clause-answer g c =
     let exit = err_from_is_err_and c.from_residual.result c.from_residual.ensures.1 in
-    rw (exit.1, exit.2) (AnswersFile-no_text _ _ _ _ _ _ c.fetch.ensures.files c.in_err-text.ensures.fetched)
+    rw (exit.1, exit.2) (no_first_file (AnswersRun _ _ (asked_by c.args.want.now)) _ _ _ (run_files c.args.want.now.cycles c.args.want.now.config.now c.args.exe.now) _ c.fetch.ensures.files c.in_err-text.ensures.fetched)
 
 pub returns-in_err-file-clause-answer : goal.returns-in_err-file-clause-answer
 returns-in_err-file-clause-answer g c =
     let exit = err_from_is_err_and c.from_residual-in_err-file.result c.from_residual-in_err-file.ensures.1 in
     rw (exit.1, exit.2)
-    (AnswersFile-no_exe _ _ _ _ _ _ c.in_ok-text.text.items _ c.fetch.ensures.files c.fetch-2.ensures.files c.fetch.ensures.kept c.fetch-2.ensures.kept
+    (no_second_file (AnswersRun _ _ (asked_by c.args.want.now)) _ _ _ _ (run_files c.args.want.now.cycles c.args.want.now.config.now c.args.exe.now) c.in_ok-text.text.items _ c.fetch.ensures.files c.fetch-2.ensures.files c.fetch.ensures.kept c.fetch-2.ensures.kept
     c.in_ok-text.ensures.fetched.0 c.in_ok-text.ensures.fetched.1 c.in_err-file.ensures.fetched)
 
 pub returns-in_err-config-clause-answer : goal.returns-in_err-config-clause-answer
 returns-in_err-config-clause-answer g c =
     let exit = err_from_is_err_and c.from_residual-in_err-config.result c.from_residual-in_err-config.ensures.1 in
-    let both = Both-from _ _ _ _ _ c.in_ok-text.text c.in_ok-file.file c.fetch.ensures.files c.fetch-2.ensures.files c.fetch.ensures.kept c.fetch-2.ensures.kept c.in_ok-text.ensures.fetched c.in_ok-file.ensures.fetched in
+    let both = Both-from _ _ _ (run_files c.args.want.now.cycles c.args.want.now.config.now c.args.exe.now) c.in_ok-text.text c.in_ok-file.file c.fetch.ensures.files c.fetch-2.ensures.files c.fetch.ensures.kept c.fetch-2.ensures.kept c.in_ok-text.ensures.fetched c.in_ok-file.ensures.fetched in
     let fails = rw c.deref.ensures.value at c.in_err-config.ensures in
-    rw (exit.1, exit.2) (AnswersFile-refused _ _ _ _ _ _ _ _ _ both (refused_setup c.args.want.now.cycles c.in_ok-text.text.items c.in_ok-file.file.items _ fails))
+    rw (exit.1, exit.2) (both_refused (AnswersRun _ _ (asked_by c.args.want.now)) _ _ _ _ (run_files c.args.want.now.cycles c.args.want.now.config.now c.args.exe.now) _ _ _ both (refused_setup c.args.want.now.cycles c.in_ok-text.text.items c.in_ok-file.file.items _ fails))
 
 pub returns-in_err-processor-clause-answer : goal.returns-in_err-processor-clause-answer
 returns-in_err-processor-clause-answer g c =
     let exit = err_from_is_err_and c.from_residual-in_err-processor.result c.from_residual-in_err-processor.ensures.1 in
-    let both = Both-from _ _ _ _ _ c.in_ok-text.text c.in_ok-file.file c.fetch.ensures.files c.fetch-2.ensures.files c.fetch.ensures.kept c.fetch-2.ensures.kept c.in_ok-text.ensures.fetched c.in_ok-file.ensures.fetched in
+    let both = Both-from _ _ _ (run_files c.args.want.now.cycles c.args.want.now.config.now c.args.exe.now) c.in_ok-text.text c.in_ok-file.file c.fetch.ensures.files c.fetch-2.ensures.files c.fetch.ensures.kept c.fetch-2.ensures.kept c.in_ok-text.ensures.fetched c.in_ok-file.ensures.fetched in
     let fails = refused_image c.args.want.now.cycles c.in_ok-text.text.items c.in_ok-file.file.items c.in_ok-config.config _ (rw c.deref.ensures.value at c.in_ok-config.ensures) (rw c.deref-2.ensures.value at c.in_err-processor.ensures) in
-    rw (exit.1, exit.2) (AnswersFile-refused _ _ _ _ _ _ _ _ _ both fails)
+    rw (exit.1, exit.2) (both_refused (AnswersRun _ _ (asked_by c.args.want.now)) _ _ _ _ (run_files c.args.want.now.cycles c.args.want.now.config.now c.args.exe.now) _ _ _ both fails)
 
 pub returns-in_err-write_order-clause-answer : goal.returns-in_err-write_order-clause-answer
 returns-in_err-write_order-clause-answer g c =
     let exit = err_from_is_err_and c.from_residual-in_err-write_order.result c.from_residual-in_err-write_order.ensures.1 in
-    let both = Both-from _ _ _ _ _ c.in_ok-text.text c.in_ok-file.file c.fetch.ensures.files c.fetch-2.ensures.files c.fetch.ensures.kept c.fetch-2.ensures.kept c.in_ok-text.ensures.fetched c.in_ok-file.ensures.fetched in
+    let both = Both-from _ _ _ (run_files c.args.want.now.cycles c.args.want.now.config.now c.args.exe.now) c.in_ok-text.text c.in_ok-file.file c.fetch.ensures.files c.fetch-2.ensures.files c.fetch.ensures.kept c.fetch-2.ensures.kept c.in_ok-text.ensures.fetched c.in_ok-file.ensures.fetched in
     let made = Made-from _ _ _ c.in_ok-config.config c.in_ok-processor.processor (rw c.deref.ensures.value at c.in_ok-config.ensures) (rw c.deref-2.ensures.value at c.in_ok-processor.ensures) in
     rw (exit.1, exit.2) (AnswersFile-at_order _ _ _ _ _ _ _ _ _ _ _ _ both c.write_order.ensures.kept made c.in_err-write_order.ensures.stored)
 
 pub returns-in_err-write_report-clause-answer : goal.returns-in_err-write_report-clause-answer
 returns-in_err-write_report-clause-answer g c =
     let exit = err_from_is_err_and c.from_residual-in_err-write_report.result c.from_residual-in_err-write_report.ensures.1 in
-    let both = Both-from _ _ _ _ _ c.in_ok-text.text c.in_ok-file.file c.fetch.ensures.files c.fetch-2.ensures.files c.fetch.ensures.kept c.fetch-2.ensures.kept c.in_ok-text.ensures.fetched c.in_ok-file.ensures.fetched in
+    let both = Both-from _ _ _ (run_files c.args.want.now.cycles c.args.want.now.config.now c.args.exe.now) c.in_ok-text.text c.in_ok-file.file c.fetch.ensures.files c.fetch-2.ensures.files c.fetch.ensures.kept c.fetch-2.ensures.kept c.in_ok-text.ensures.fetched c.in_ok-file.ensures.fetched in
     let made = Made-from _ _ _ c.in_ok-config.config c.in_ok-processor.processor (rw c.deref.ensures.value at c.in_ok-config.ensures) (rw c.deref-2.ensures.value at c.in_ok-processor.ensures) in
     rw (exit.1, exit.2) (AnswersFile-at_report _ _ _ _ _ _ _ _ _ _ _ _ _ both c.write_order.ensures.kept made c.in_ok-write_order.ensures.stored c.in_err-write_report.ensures.put)
 
 pub returns-clause-answer : goal.returns-clause-answer
 returns-clause-answer g c =
-    let both = Both-from _ _ _ _ _ c.in_ok-text.text c.in_ok-file.file c.fetch.ensures.files c.fetch-2.ensures.files c.fetch.ensures.kept c.fetch-2.ensures.kept c.in_ok-text.ensures.fetched c.in_ok-file.ensures.fetched in
+    let both = Both-from _ _ _ (run_files c.args.want.now.cycles c.args.want.now.config.now c.args.exe.now) c.in_ok-text.text c.in_ok-file.file c.fetch.ensures.files c.fetch-2.ensures.files c.fetch.ensures.kept c.fetch-2.ensures.kept c.in_ok-text.ensures.fetched c.in_ok-file.ensures.fetched in
     let made = Made-from _ _ _ c.in_ok-config.config c.in_ok-processor.processor (rw c.deref.ensures.value at c.in_ok-config.ensures) (rw c.deref-2.ensures.value at c.in_ok-processor.ensures) in
     rw c.from.ensures (AnswersFile-at_end _ _ _ _ _ _ _ _ _ _ _ _ both c.write_order.ensures.kept made c.in_ok-write_order.ensures.stored c.in_ok-write_report.ensures.put)
