@@ -1,5 +1,6 @@
 pub mod AnswerCases
 pub mod Causes
+pub mod CheckCases
 pub mod Failing
 pub mod Fetching
 pub mod FileAnswers
@@ -7,6 +8,7 @@ pub mod FileCauses
 pub mod Fits
 pub mod Found
 pub mod Hex
+pub mod Judging
 pub mod LastStores
 pub mod OrderFiles
 pub mod Places

@@ -1,6 +1,9 @@
 pub mod Answers
 pub mod AskedRun
 pub mod Causes
+pub mod CheckAnswers
+pub mod CheckCauses
+pub mod CheckParts
 pub mod FileCauses
 pub mod Machine
 pub mod Memory
@@ -11,3 +14,4 @@ pub mod Refusals
 pub mod ReportText
 pub mod Steps
 pub mod TwoFiles
+pub mod VerdictText

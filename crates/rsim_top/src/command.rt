@@ -21,7 +21,7 @@ use std::alloc::Global;
 // The longest configuration and the longest executable, in bytes.
 const MAX_CONFIG: u64 = 65_536;
 
-const MAX_EXE: u64 = 16_777_216;
+pub(crate) const MAX_EXE: u64 = 16_777_216;
 
 /// What a run came to: the simulated cycles, and the steps that all processors retired.
 #[derive(Clone, Copy, Debug, PartialEq, Eq)]
@@ -116,7 +116,7 @@ fn run_executable<S: Shelf, K: Sink>(
 }
 
 // The bytes of a file, which may have so many.
-fn fetch<S: Shelf>(
+pub(crate) fn fetch<S: Shelf>(
     alloc: Global,
     which: File,
     limit: u64,
@@ -213,7 +213,7 @@ fn write_report<K: Sink>(alloc: Global, processor: &Processor, out: &mut K) -> R
 }
 
 // The refusal for a file or stream that was not written.
-fn write_refusal(file: File, fault: StoreFault) -> Refusal
+pub(crate) fn write_refusal(file: File, fault: StoreFault) -> Refusal
     ensures { result ≡ write_refusal_of file fault }
 {
     match fault {

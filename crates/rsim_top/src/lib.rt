@@ -1,6 +1,7 @@
 //! All that the programs do: from the words of a command line and the outside to an answer.
 #![tactic(auto)]
 
+mod checking;
 mod command;
 mod order_file;
 mod processor;
@@ -13,7 +14,10 @@ mod tests_commands;
 #[cfg(test)]
 mod tests_segments;
 mod text;
+mod verdict;
 
+pub use checking::check_command;
 pub use command::{Reported, run_command};
 pub use command_words::WordsFault;
 pub use refusal::{File, Refusal};
+pub use verdict::Verdict;
