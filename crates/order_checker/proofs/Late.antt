@@ -52,8 +52,8 @@ late_found image c j e w at =
     let at_j : slice_index places e.index ≡ j = here_is image c j e w at in
     first-least (OutOfOrder (file_line j) e.node) (is_late image c j e) e.index
     ∙ ap (option_map (OutOfOrder (file_line j) e.node)) (
-      first-same (λ k. if is_late image c j e k then Some k else None) (λ k. if is_needed_by c.model c.lines w.program e k && nat_lt j (slice_index places k) then Some k else None) e.index (λ k below. ap (λ b. if b then Some k else None) (same is k below))
-      ∙ sym (first_standing places j e.index w.next w.left.items (is_needed_by c.model c.lines w.program e) at.walk.walked at.reached at_j (λ k below. apart is at_j k below))
+    first-same (λ k. if is_late image c j e k then Some k else None) (λ k. if is_needed_by c.model c.lines w.program e k && nat_lt j (slice_index places k) then Some k else None) e.index (λ k below. ap (λ b. if b then Some k else None) (same is k below))
+    ∙ sym (first_standing places j e.index w.next w.left.items (is_needed_by c.model c.lines w.program e) at.walk.walked at.reached at_j (λ k below. apart is at_j k below))
     )
   where
     same : IsAt image c j e w → (k : ℕ) → k < e.index → is_late image c j e k ≡ (is_needed_by c.model c.lines w.program e k && nat_lt j (slice_index w.program.places.items k))

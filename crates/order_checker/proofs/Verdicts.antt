@@ -29,9 +29,9 @@ pub fault_of_runs : (image : ImageView) (c : CertificateView) (r : Rejected) →
 unfolding first_fault
 fault_of_runs image c r strays (inl out) = inl out
 fault_of_runs image c r strays (inr is) = inr (
-  ap (λ o. option_or o (option_or (first (run_fault image c) c.processors) (first (line_fault image c) (length c.lines)))) strays
-  ∙ ap (λ o. option_or o (first (line_fault image c) (length c.lines))) is
-)
+    ap (λ o. option_or o (option_or (first (run_fault image c) c.processors) (first (line_fault image c) (length c.lines)))) strays
+    ∙ ap (λ o. option_or o (first (line_fault image c) (length c.lines))) is
+    )
 
 first_fault-lines : (image : ImageView) (c : CertificateView) → first (stray c.processors c.lines) (length c.lines) ≡ None → first (run_fault image c) c.processors ≡ None → first_fault image c ≡ first (line_fault image c) (length c.lines)
 unfolding first_fault

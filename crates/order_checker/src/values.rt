@@ -81,12 +81,7 @@ fn wrong_byte(
     if written == loaded {
         return None;
     }
-    Some(Rejected::WrongValue(
-        place + FIRST_LINE,
-        b as u8,
-        written,
-        loaded,
-    ))
+    Some(Rejected::WrongValue(place + FIRST_LINE, b as u8, written, loaded))
 }
 
 // What the source of a byte of a load has written there.

@@ -51,8 +51,10 @@ impl fmt::Display for Rejected {
             Rejected::Missing(Node(p), i) => write!(f, "Missing {p} {i}"),
             Rejected::Differs(line, part) => write!(f, "Differs {line} {part}"),
             Rejected::OutOfOrder(line, Node(p), i) => write!(f, "OutOfOrder {line} {p} {i}"),
-            Rejected::WrongValue(line, b, wrote, has) =>
-                write!(f, "WrongValue {line} {b} {wrote} {has}"),
+            Rejected::WrongValue(line, b, wrote, has) => write!(
+                f,
+                "WrongValue {line} {b} {wrote} {has}"
+            ),
             Rejected::Memory => write!(f, "no memory"),
         }
     }

@@ -35,6 +35,11 @@ not_missing told name bytes held missing =
     let found = held.found in
     absurd cc
 
+-- the first part of a choice without anything has nothing
+option_or-None : (a b : Option Refusal) → option_or a b ≡ None → a ≡ None
+option_or-None (Some x) b is = absurd cc
+option_or-None None b is = refl
+
 module _ {A : Type 0} (Says : List ℕ → List ℕ → Result A Refusal → Type 0) (old new : Outside) (f : TwoFiles) (result : Result A Refusal) where
   -- A record of the fetches is best looked at by what they came to.
   abbrev ByFetches : (Option (List ℕ) → Option (List ℕ) → Type 0) → Type 0
@@ -116,12 +121,30 @@ module _ {A : Type 0} (Says : List ℕ → List ℕ → Result A Refusal → Typ
   pub AreExact-from_answer : AnswersFiles Says old new f result → AreExact f old result
   AreExact-from_answer answer = record { no_first = no_first answer; long_first = long_first answer; no_second = no_second answer; wrong_files = wrong_files answer }
 
--- ---- nothing is wrong
+-- ---- two files that are there, and of which nothing is refused
 
--- the first part of a choice without anything has nothing
-option_or-None : (a b : Option Refusal) → option_or a b ≡ None → a ≡ None
-option_or-None (Some x) b is = absurd cc
-option_or-None None b is = refl
+-- what is answered of them, unless memory was short or a fetch failed
+abbrev pub SaidOf : {A : Type 0} → (List ℕ → List ℕ → Result A Refusal → Type 0) → TwoFiles → List ℕ → List ℕ → Result A Refusal → Type 0
+SaidOf Says f one two result = (result ≡ Err refusal.Memory) ⊎ ((result ≡ Err (refusal.Read f.first)) ⊎ ((result ≡ Err (refusal.Read f.second)) ⊎ Says one two result))
+
+pub said_of_held : {A : Type 0} (Says : List ℕ → List ℕ → Result A Refusal → Type 0) (old new : Outside) (f : TwoFiles) (result : Result A Refusal) → AnswersFiles Says old new f result → (held_one held_two : List ℕ) →
+    IsHeld old.shelf.files f.first_name held_one → IsHeld old.shelf.files f.second_name held_two → first_refusal f (Some held_one) (Some held_two) ≡ None → SaidOf Says f held_one held_two result
+said_of_held Says old new f result answer held_one held_two held held_too accepted = from_fetches Says old new f result answer inl by
+  where
+    by : ByFetches Says old new f result (λ one two. SaidOf Says f held_one held_two result)
+    by None two is_one is_two says = inr (inl says.0)
+    by (Some one) None is_one is_two says =
+        let same = same_file _ _ _ _ held is_one in
+        let short : fetch_refusal f.first f.first_limit (Some held_one) ≡ None = option_or-None _ _ accepted in
+        let refused = rw (same, short) at says in
+        inr (inr (inl refused.0))
+    by (Some one) (Some two) is_one is_two says =
+        let same = same_file _ _ _ _ held is_one in
+        let same_two = same_file _ _ _ _ held_too (is_two (rw same (option_or-None _ _ accepted))) in
+        let said = rw (same, same_two, accepted) at says in
+        inr (inr (inr said))
+
+-- ---- nothing is wrong
 
 -- what is said of two files of which nothing is refused: no file could not be read, and only a shelf or a sink that may fail fails
 pub record IsSettled {A : Type 0} (Says : List ℕ → List ℕ → Result A Refusal → Type 0) (old new : Outside) (f : TwoFiles) : Type 0 where

@@ -1,6 +1,7 @@
 pub mod AnswerCases
 pub mod Causes
 pub mod CheckCases
+pub mod CheckCauses
 pub mod Failing
 pub mod Fetching
 pub mod FileAnswers

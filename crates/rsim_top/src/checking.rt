@@ -37,6 +37,30 @@ pub fn check_command<S: Shelf, K: Sink>(
         (outside (shelf_of S.holds S.faults S.sure shelf.old) (sink_of K.written K.faults K.sure out.old))
         (outside (shelf_of S.holds S.faults S.sure shelf.new) (sink_of K.written K.faults K.sure out.new))
         result }
+    ensures exactly { IsExactCheck (map string_bytes words.now.items)
+        (outside (shelf_of S.holds S.faults S.sure shelf.old) (sink_of K.written K.faults K.sure out.old))
+        result }
+    ensures complete { IsCompleteCheck (map string_bytes words.now.items)
+        (outside (shelf_of S.holds S.faults S.sure shelf.old) (sink_of K.written K.faults K.sure out.old))
+        (outside (shelf_of S.holds S.faults S.sure shelf.new) (sink_of K.written K.faults K.sure out.new))
+        result }
+    ensures shelf_faults { S.faults shelf.old ≤ S.faults shelf.new }
+    ensures sink_faults { K.faults out.old ≤ K.faults out.new }
+{
+    check_words(alloc, words, shelf, out)
+}
+
+// As `check_command`.
+fn check_words<S: Shelf, K: Sink>(
+    alloc: Global,
+    words: &Vec<String>,
+    shelf: &mut S,
+    out: &mut K,
+) -> Result<Verdict, Refusal>
+    ensures answer { ChecksAnswer (map string_bytes words.now.items)
+        (outside (shelf_of S.holds S.faults S.sure shelf.old) (sink_of K.written K.faults K.sure out.old))
+        (outside (shelf_of S.holds S.faults S.sure shelf.new) (sink_of K.written K.faults K.sure out.new))
+        result }
     ensures shelf_faults { S.faults shelf.old ≤ S.faults shelf.new }
     ensures sink_faults { K.faults out.old ≤ K.faults out.new }
 {
