@@ -9,6 +9,7 @@ pub mod Latest
 pub mod LineSteps
 pub mod Lists
 pub mod MadeLines
+pub mod NoTexts
 pub mod Outcomes
 pub mod ReadWhole
 pub mod Replaying

@@ -1,5 +1,5 @@
 -- What a check answers, for each text.
-use Rattle.std.specs.Prelude.{◌≡◌, ℕ, List, length, sum, Option, None, Some, Result, Ok, Err}
+use Rattle.std.specs.Prelude.{◌≡◌, ℕ, Bool, true, false, List, length, sum, Option, None, Some, Result, Ok, Err}
 use Rattle.elf64_load.specs.Image.{ImageView}
 use Rattle.order_certificate.specs.Certificate.{CertificateView}
 use Rattle.order_certificate.specs.Reading.{IsRead}
@@ -18,6 +18,11 @@ accepted c = record { retired = sum c.counts; entries = length c.lines }
 abbrev pub rejected : TextFault → Rejected
 rejected text_fault.Memory = Memory
 rejected fault = Text fault
+
+-- the fault is of a text
+abbrev pub is_of_text : Rejected → Bool
+is_of_text (Text fault) = true
+is_of_text _ = false
 
 abbrev pub unless_fault : CertificateView → Option Rejected → Result Accepted Rejected
 unless_fault c None = Ok (accepted c)

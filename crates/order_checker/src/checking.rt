@@ -1,9 +1,9 @@
 // The whole check, from the text of an order to its verdict.
-ghost use Rattle.std.specs.Prelude.{◌≡◌, ◌≤◌, IfOk, OnOk, IfErr, List, None, Ok, Result, length};
+ghost use Rattle.std.specs.Prelude.{◌≡◌, ◌≤◌, false, IfOk, OnOk, IfErr, List, None, Ok, Result, length};
 ghost use Rattle.order_certificate.specs.Certificate.{CertificateView, IsCertificate, text_of};
 ghost use Rattle.order_certificate.specs.Reading.{IsRead};
 ghost use Rattle.order_certificate.specs.declared.fault.TextFault.{TextFault as FaultOfText};
-ghost use Rattle.order_checker.specs.Checked.{Checks, IsVerdict, accepted as accepted_of, rejected as rejected_for, unless_fault, verdict};
+ghost use Rattle.order_checker.specs.Checked.{Checks, IsVerdict, accepted as accepted_of, is_of_text, rejected as rejected_for, unless_fault, verdict};
 ghost use Rattle.order_checker.specs.Faults.{first_fault};
 ghost use Rattle.order_checker.specs.Fit.{Fit};
 ghost use Rattle.order_checker.specs.Outcomes.{IsFault};
@@ -27,6 +27,7 @@ pub fn check(alloc: Global, image: &Image, text: &[u8]) -> Result<Accepted, Reje
     ensures verdict { Checks (IsVerdict image.now text.now) result }
     ensures only { (order : Result CertificateView FaultOfText) → IsRead text.now order → Checks (λ r. r ≡ verdict image.now order) result }
     ensures fits { IfOk result (λ a. (c : CertificateView) × IsCertificate c × (text.now ≡ text_of c) × (a ≡ accepted_of c) × ((runs : List Ran) × Fit image.now c.model c.counts c.lines runs)) }
+    ensures plain { IfErr result (λ r. r ≡ Rejected.Text FaultOfText.Memory → ⊥) }
     ensures accepts { (c : CertificateView) (runs : List Ran) → IsCertificate c → text.now ≡ text_of c → Fit image.now c.model c.counts c.lines runs → Checks (λ r. r ≡ Ok (accepted_of c)) result }
 {
     // by these laws the verdict is one, and says whether the order fits
@@ -38,6 +39,7 @@ pub fn check(alloc: Global, image: &Image, text: &[u8]) -> Result<Accepted, Reje
 // The verdict on a text.
 fn judge(alloc: Global, image: &Image, text: &[u8]) -> Result<Accepted, Rejected>
     ensures verdict { Checks (IsVerdict image.now text.now) result }
+    ensures plain { IfErr result (λ r. r ≡ Rejected.Text FaultOfText.Memory → ⊥) }
     ensures whole { IfOk result (λ a. (c : CertificateView) × IsCertificate c × (text.now ≡ text_of c) × (a ≡ accepted_of c) × (first_fault image.now c ≡ None)) }
     ensures each { (c : CertificateView) → IsCertificate c → text.now ≡ text_of c → Checks (λ r. r ≡ unless_fault c (first_fault image.now c)) result }
 {
@@ -64,6 +66,7 @@ fn check_order(alloc: Global, image: &Image, order: &Certificate) -> Result<Acce
     ensures accepted { IfOk result (λ a. a ≡ accepted_of order.now) }
     ensures none { OnOk result (first_fault image.now order.now ≡ None) }
     ensures fault { IfErr result (IsFault (first_fault image.now order.now)) }
+    ensures plain { IfErr result (λ r. is_of_text r ≡ false) }
 {
     let tables = match find_places(alloc, &order.lines, order.processors) {
         Ok(tables) => tables,
