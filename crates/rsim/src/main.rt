@@ -2,9 +2,8 @@
 #![tactic(auto)]
 
 use rsim_io::{FileShelf, StdSink};
-use rsim_top::{Refusal, WordsFault, run_command};
+use rsim_top::{Refusal, program_words, run_command};
 use std::process::ExitCode;
-use std::{env, io};
 
 fn main(rt: HostRuntime) -> ExitCode {
     match run(&rt) {
@@ -17,18 +16,9 @@ fn main(rt: HostRuntime) -> ExitCode {
 }
 
 fn run(rt: &HostRuntime) -> Result<(), Refusal> {
-    let words = words(rt)?;
+    let words = program_words(rt)?;
     let mut shelf = FileShelf::new(rt);
     let mut report = StdSink::new(rt);
     run_command(rt.alloc(), &words, &mut shelf, &mut report)?;
     Ok(())
-}
-
-// The words after the program's name. Words that are no text are no names.
-fn words(rt: &HostRuntime) -> Result<Vec<String>, Refusal> {
-    match env::args(rt) {
-        Ok(all) => all.skip(1).collect(rt.alloc()).map_err(|_| Refusal::Memory),
-        Err(error) if error.kind() == io::ErrorKind::OutOfMemory => Err(Refusal::Memory),
-        Err(_) => Err(Refusal::Words(WordsFault::Shape)),
-    }
 }

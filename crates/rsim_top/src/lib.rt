@@ -5,6 +5,7 @@ mod checking;
 mod command;
 mod order_file;
 mod processor;
+mod program;
 mod refusal;
 mod report_text;
 #[cfg(test)]
@@ -19,5 +20,6 @@ mod verdict;
 pub use checking::check_command;
 pub use command::{Reported, run_command};
 pub use command_words::WordsFault;
+pub use program::program_words;
 pub use refusal::{File, Refusal};
 pub use verdict::Verdict;
