@@ -1,19 +1,19 @@
 -- Regions as callers see them, and the segments that they are kept as.
-use Rattle.std.proofs.Common.{◌≡◌, ℕ, ◌+◌, ◌<◌, Bool, true, false, ◌&&◌, cond, nat_lt, nat_le, List, length, get_or, take, drop, Option, Some, None, is_some, option_map, refl, ap, sym, ◌∙◌, inl, inr, arith}
+use Rattle.std.proofs.Common.{◌≡◌, ℕ, ◌+◌, ◌-◌, ◌<◌, ◌≤◌, Bool, true, false, ◌&&◌, cond, nat_lt, nat_le, List, length, get_or, take, drop, Option, Some, None, is_some, option_map, refl, ap, sym, ◌∙◌, inl, inr, arith}
 use denote.Ref.{Bor}
 use Rattle.std.specs.Option.{option_copied, MatchOption}
 use Rattle.std.specs.List.{All, find, list_any}
-use Rattle.std.proofs.lemmas.Bool.{cases_Bool, and_parts, and_right, lt-ltb}
+use Rattle.std.proofs.lemmas.Bool.{cases_Bool, and_parts, and_from, and_right, leb-true, ltb-true, le-leb, lt-ltb}
 use Rattle.std.proofs.lemmas.List.{length-take-le, length-drop}
 use Rattle.std.proofs.lemmas.List.Elements.{All-contains}
 use Rattle.std.proofs.lemmas.Map.Entries.{option_filter}
 use Rattle.elf64_load.specs.Image.{RegionView, holds}
-use Rattle.elf64_load.specs.Layout.{has, region_in, regions_in, spans_of_segments, IsWithin, AreApart}
+use Rattle.elf64_load.specs.Layout.{has, spans, region_in, regions_in, spans_of_segments, IsWithin, AreApart}
 use Rattle.elf64_load.specs.declared.segment.Segment.{Segment}
 use Rattle.elf64_load.specs.declared.span.Span.{Span}
 use Rattle.elf64_load.proofs.Finds.{any-find, find-kept, find-under, find-only, found-in}
 use Rattle.elf64_load.proofs.Layouts.{has-bounds}
-use Rattle.elf64_load.proofs.Holders.{at, at-has, at-once, has-once}
+use Rattle.elf64_load.proofs.Holders.{at, at-has, at-once, has-once, no_segment, find-no_span, find-span, span_is}
 
 length-region : (bytes : List ℕ) (s : Segment) → IsWithin (length bytes) s → length (take s.len (drop s.start bytes)) ≡ s.len
 length-region bytes s h =
@@ -93,3 +93,22 @@ some-tested false x = refl
 pub some-passes : {X : Type 0} (t : X → Bool) (o : Option (Bor X)) (b : Bool) → MatchOption o (b ≡ false) (λ r. b ≡ t r.now) → b ≡ is_some (option_filter t (option_copied o))
 some-passes t None b e = e
 some-passes t (Some r) b e = e ∙ some-tested (t r.now) r.now
+
+-- what is in a span is in a segment
+pub spans-has : (segments : List Segment) (order : List Span) → AreApart (spans_of_segments segments) order → (a : ℕ) → is_some (find (spans a) order) ≡ is_some (find (has a 1) segments)
+spans-has segments order h a = by_span (find (spans a) order) refl
+  where
+    by_span : (o : Option Span) → find (spans a) order ≡ o → is_some o ≡ is_some (find (has a 1) segments)
+    by_span None e = ap is_some (sym (find-no_span segments order h a 1 (omega arith) e))
+    by_span (Some s) e =
+        let is = span_is segments order h a s e in
+        let d = no_segment in
+        let segment : Segment = get_or segments s.place d in
+        let place : s.place - 0 ≡ s.place = omega arith in
+        let first : s.first ≡ segment.first = is.first d ∙ ap (λ k. (get_or segments k d).first) place in
+        let len : s.len ≡ segment.len = is.len d ∙ ap (λ k. (get_or segments k d).len) place in
+        let parts = and_parts (nat_le s.first a) (nat_lt a (s.first + s.len)) (found-in (spans a) order s e).1 in
+        let low : s.first ≤ a = leb-true _ _ parts.0 in
+        let high : a < s.first + s.len = ltb-true _ _ parts.1 in
+        let there : has a 1 segment ≡ true = and_from (nat_le segment.first a) (nat_le (a + 1) (segment.first + segment.len)) (le-leb _ _ (omega (arith, low, first))) (le-leb _ _ (omega (arith, high, first, len))) in
+        ap is_some (sym (find-span segments order h a 1 (omega arith) s d e ∙ ap (λ b. cond b (Some segment) None) there))

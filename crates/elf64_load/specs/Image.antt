@@ -58,3 +58,7 @@ is_readable image a n = list_any (λ r. r.may_read && holds a n r) image.regions
 -- the same for a region or stack that may be written
 abbrev pub is_writable : ImageView → ℕ → ℕ → Bool
 is_writable image a n = list_any (λ r. r.may_write && holds a n r) image.regions || in_one_stack a n
+
+-- there is memory at address a: it lies in a region or a stack
+abbrev pub is_mapped : ImageView → ℕ → Bool
+is_mapped image a = list_any (holds a 1) image.regions || in_one_stack a 1

@@ -1,9 +1,12 @@
 // The memory that an executable starts with.
-ghost use Rattle.std.specs.Prelude.{◌≡◌};
+ghost use Rattle.std.specs.Prelude.{◌≡◌, ℕ};
+ghost use Rattle.std.specs.List.{list_any};
 ghost use Rattle.rsim_base.specs.Bytes.{count_of};
-ghost use Rattle.elf64_load.specs.Image.{fetched, byte_at, is_readable, is_writable};
+ghost use Rattle.elf64_load.specs.Image.{fetched, byte_at, holds, is_readable, is_writable};
+ghost use Rattle.elf64_load.specs.Layout.{spans as spans_byte};
 
 use crate::regions::Regions;
+use crate::span::Span;
 use crate::stacks::in_one_stack;
 use rsim_base::{Addr, Size};
 use std::marker::Model;
@@ -48,6 +51,14 @@ impl Image {
             return None;
         }
         self.regions.word_of_text(pc)
+    }
+
+    /// The addresses of the regions that have bytes, from the lowest up: a byte is in a span exactly where it is in a
+    /// region. The stacks are not among them.
+    pub fn spans(&self) -> &[Span]
+        ensures { (a : ℕ) → list_any (λ s. spans_byte a s) result.now ≡ list_any (holds a 1) self.now.regions }
+    {
+        self.regions.spans()
     }
 
     /// The first content of a byte: 0 outside the regions.

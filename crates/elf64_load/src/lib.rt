@@ -20,3 +20,5 @@ mod tests;
 pub use fault::ElfFault;
 pub use image::Image;
 pub use loader::load;
+pub use span::Span;
+pub use stacks::{STACKS_END, STACKS_START};

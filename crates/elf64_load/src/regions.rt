@@ -1,11 +1,11 @@
 // The regions of an executable.
-ghost use Rattle.std.specs.Prelude.{◌≡◌, ◌≤◌, ◌<◌, ◌&&◌, IfOk, None, filter, length, map, nat_lt, option_map, sum_by, unwrap_or};
+ghost use Rattle.std.specs.Prelude.{◌≡◌, ℕ, ◌≤◌, ◌<◌, ◌&&◌, IfOk, None, filter, length, map, nat_lt, option_map, sum_by, unwrap_or};
 ghost use Rattle.std.specs.List.{All, find, list_any};
 ghost use Rattle.std.specs.Option.{option_copied};
 ghost use Rattle.elf64_load.specs.Elf.{is_load, region_of};
 ghost use Rattle.elf64_load.specs.Faults.{shared};
 ghost use Rattle.elf64_load.specs.Image.{content_at, holds, is_text, word_at};
-ghost use Rattle.elf64_load.specs.Layout.{AreApart, AreInOrder, IsInFile, has, runs, size_of, spans_of_headers, spans_of_segments};
+ghost use Rattle.elf64_load.specs.Layout.{AreApart, AreInOrder, IsInFile, has, runs, size_of, spans as spans_byte, spans_of_headers, spans_of_segments};
 
 use crate::header::ProgramHeader;
 use crate::layout::lay_out;
@@ -65,6 +65,13 @@ impl Regions {
             order,
             likely,
         })
+    }
+
+    /// The addresses of the regions that have bytes, from the lowest up.
+    pub fn spans(&self) -> &[Span]
+        ensures { (a : ℕ) → list_any (λ s. spans_byte a s) result.now ≡ list_any (holds a 1) self.now }
+    {
+        &self.order
     }
 
     /// The instruction word at `pc`, if a region of text has its four bytes.

@@ -337,3 +337,13 @@ fn the_least_pair_that_shares_a_block_is_told(rt: HostRuntime) -> Result<(), Fai
     }
     Ok(())
 }
+
+#[test]
+fn spans_go_by_address(rt: HostRuntime) -> Result<(), Fail> {
+    let image = load(rt.alloc(), &small(rt.alloc())?)?;
+    let spans = image.spans();
+    assert_eq!(rt; spans.len(), 2);
+    assert_eq!(rt; (spans[0].first, spans[0].len), (0x10_0000, 16));
+    assert_eq!(rt; (spans[1].first, spans[1].len), (0x10_0080, 8));
+    Ok(())
+}
