@@ -4,7 +4,7 @@ ghost use Rattle.rsim_base.specs.Accesses as accesses;
 ghost use Rattle.rsim_base.specs.Bytes.{count_of, low_bytes, Overlaps, Covers, starts_in, gap_of, byte_of};
 
 /// A node of the machine: a processor with its caches and its share of the memory.
-#[derive(Clone, Copy, Debug, PartialEq, Eq)]
+#[derive(Clone, Copy, Debug, Default, PartialEq, Eq)]
 pub struct Node(pub u8);
 
 /// The address of a byte. Sums of addresses are modulo 2^64.
@@ -12,7 +12,7 @@ pub struct Node(pub u8);
 pub struct Addr(pub u64);
 
 /// A cache line: an address divided by the line size.
-#[derive(Clone, Copy, Debug, PartialEq, Eq)]
+#[derive(Clone, Copy, Debug, Default, PartialEq, Eq)]
 pub struct Line(pub u64);
 
 /// How many bytes an access has.

@@ -1,0 +1,64 @@
+-- The parts of a flat store: the doublewords of memory, the node that has each line, and the wishes of each node.
+use Rattle.std.specs.Prelude.{ℕ, ◌/◌, ◌%◌, ◌==◌, nat_eq, Bool, List, [], map, length, slice_index_or, Option, None, is_some, unwrap_or, if◌then◌else◌}
+use Rattle.std.specs.HashMap.{get}
+use Rattle.arrayvec.specs.ArrayVec.{ArrayVec}
+use Rattle.rsim_base.specs.Bytes.{byte_of}
+use Rattle.rsim_base.specs.declared.memory.Node.{Node}
+use Rattle.memory_contracts.specs.Store.{Wish}
+use Rattle.memory_contracts.specs.declared.memory.Memory.{Memory}
+use Rattle.memory_contracts.specs.declared.owners.Owners.{Owners}
+use Rattle.memory_contracts.specs.declared.wishes.Wanted.{Wanted}
+use Rattle.memory_contracts.specs.declared.wishes.Wishes.{Wishes}
+
+-- f, but y at x
+abbrev pub with_at : {A : Type 0} → (ℕ → A) → ℕ → A → ℕ → A
+with_at f x y z = if z == x then y else f z
+
+-- ---- memory
+
+-- whether the doubleword of this number is kept: its first address is 8 times the number
+abbrev pub has_doubleword : Memory → ℕ → Bool
+has_doubleword memory number = is_some (get nat_eq memory.doublewords number)
+
+-- the doubleword: 0 where it is not kept
+abbrev pub doubleword_in : Memory → ℕ → ℕ
+doubleword_in memory number = unwrap_or (get nat_eq memory.doublewords number) 0
+
+-- the byte at a, where doublewords are these
+abbrev pub byte_of_all : (ℕ → ℕ) → ℕ → ℕ
+byte_of_all doublewords a = byte_of (doublewords (a / 8)) 8 (a % 8)
+
+abbrev pub byte_in : Memory → ℕ → ℕ
+byte_in memory = byte_of_all (doubleword_in memory)
+
+-- ---- who has each line
+
+-- whether the line can be given to a node
+abbrev pub has_line : Owners → ℕ → Bool
+has_line owners line = is_some (get nat_eq owners.lines line)
+
+-- the node that has it
+abbrev pub owner_in : Owners → ℕ → Option Node
+owner_in owners line = unwrap_or (get nat_eq owners.lines line) None
+
+-- ---- wishes
+
+abbrev pub no_wishes : ArrayVec Wanted
+no_wishes = record { items = [] }
+
+-- the wishes of node p, the oldest first
+abbrev pub wanted_in : Wishes → ℕ → List Wanted
+wanted_in wishes p = (slice_index_or wishes.lists.items p no_wishes).items
+
+-- a wish as it is seen from outside
+abbrev pub wish_of : Wanted → Wish
+wish_of wanted = record { line = wanted.line.0; own = wanted.own }
+
+abbrev pub wishes_of : List Wanted → List Wish
+wishes_of wanted = map wish_of wanted
+
+abbrev pub wishes_in : Wishes → ℕ → List Wish
+wishes_in wishes p = wishes_of (wanted_in wishes p)
+
+abbrev pub nodes_in : Wishes → ℕ
+nodes_in wishes = length wishes.lists.items

@@ -1,0 +1,10 @@
+//! What the parts of a processor may know of the memory that they share, and the simplest memory that keeps it.
+#![tactic(auto)]
+
+mod memory;
+mod owners;
+mod parts;
+mod store;
+mod wishes;
+
+pub use store::{CoherentStore, LostList};

@@ -1,0 +1,64 @@
+// The bytes of memory.
+ghost use Rattle.std.specs.Prelude.{◌≡◌, ◌%◌, ◌/◌, [], true};
+ghost use Rattle.rsim_base.specs.Bytes.{count_of};
+ghost use Rattle.memory_contracts.specs.Store.{stored, value_at};
+
+use crate::parts::{part, with_part};
+use rsim_base::Size;
+use std::alloc::Global;
+use std::collections::HashMap;
+
+/// Memory as doublewords by their numbers: that of number `k` has the eight bytes from `8 * k` on, the first highest.
+#[derive(Drop)]
+pub struct Memory {
+    doublewords: HashMap<u64, u64>,
+}
+
+impl Memory {
+    ghost use Rattle.memory_contracts.specs.Parts.{byte_in, doubleword_in, has_doubleword, with_at};
+
+    /// Memory in which nothing is kept.
+    pub fn new(alloc: Global) -> Memory
+        ensures { result.doublewords.entries ≡ [] }
+    {
+        Memory {
+            doublewords: HashMap::new(alloc),
+        }
+    }
+
+    /// The value of `n` bytes at a multiple of `n`.
+    pub fn read(&self, a: u64, n: Size) -> u64
+        requires { a % count_of n ≡ 0 }
+        ensures { result ≡ value_at (byte_in self.now) a (count_of n) }
+    {
+        part(self.doubleword(a / 8), a % 8, n)
+    }
+
+    /// Stores the low `n` bytes of a value at a multiple of `n`.
+    pub fn write(&mut self, a: u64, n: Size, value: u64)
+        requires aligned { a % count_of n ≡ 0 }
+        requires there { has_doubleword self.old (a / 8) ≡ true }
+        ensures bytes { byte_in self.new ≡ stored (byte_in self.old) a (count_of n) value }
+        ensures kept { has_doubleword self.new ≡ has_doubleword self.old }
+    {
+        let doubleword = with_part(self.doubleword(a / 8), a % 8, n, value);
+        self.set(a / 8, doubleword);
+    }
+
+    fn doubleword(&self, number: u64) -> u64
+        ensures { result ≡ doubleword_in self.now number }
+    {
+        self.doublewords.get(&number).copied().unwrap_or(0)
+    }
+
+    // Sets a doubleword that is kept.
+    fn set(&mut self, number: u64, value: u64)
+        requires { has_doubleword self.old number ≡ true }
+        ensures value { doubleword_in self.new ≡ with_at (doubleword_in self.old) number value }
+        ensures kept { has_doubleword self.new ≡ has_doubleword self.old }
+    {
+        if let Some(doubleword) = self.doublewords.get_mut(&number) {
+            *doubleword = value;
+        }
+    }
+}
