@@ -1,3 +1,5 @@
 pub mod Digits
 pub mod Lists
 pub mod Numbers
+pub mod Turns
+pub mod Exchanges

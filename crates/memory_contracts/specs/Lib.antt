@@ -1,2 +1,4 @@
+pub mod Flat
 pub mod Parts
 pub mod Store
+pub mod Sound

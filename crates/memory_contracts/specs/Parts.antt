@@ -1,10 +1,13 @@
 -- The parts of a flat store: the doublewords of memory, the node that has each line, and the wishes of each node.
-use Rattle.std.specs.Prelude.{ℕ, ◌/◌, ◌%◌, ◌==◌, nat_eq, Bool, List, [], map, length, slice_index_or, Option, None, is_some, unwrap_or, if◌then◌else◌}
+use Rattle.std.specs.Prelude.{◌≡◌, ℕ, ◌≤◌, ◌/◌, ◌%◌, ◌==◌, nat_eq, Bool, true, List, [], map, length, slice_index_or, Option, None, is_some, unwrap_or, if◌then◌else◌}
 use Rattle.std.specs.HashMap.{get}
+use Rattle.std.specs.List.{All}
 use Rattle.arrayvec.specs.ArrayVec.{ArrayVec}
 use Rattle.rsim_base.specs.Bytes.{byte_of}
+use Rattle.rsim_base.specs.declared.memory.Line.{Line}
 use Rattle.rsim_base.specs.declared.memory.Node.{Node}
-use Rattle.memory_contracts.specs.Store.{Wish}
+use Rattle.memory_contracts.specs.Flat.{Moves}
+use Rattle.memory_contracts.specs.Store.{Wish, most_wishes}
 use Rattle.memory_contracts.specs.declared.memory.Memory.{Memory}
 use Rattle.memory_contracts.specs.declared.owners.Owners.{Owners}
 use Rattle.memory_contracts.specs.declared.wishes.Wanted.{Wanted}
@@ -62,3 +65,24 @@ wishes_in wishes p = wishes_of (wanted_in wishes p)
 
 abbrev pub nodes_in : Wishes → ℕ
 nodes_in wishes = length wishes.lists.items
+
+-- ---- a tick
+
+abbrev pub moves_of : Owners → Wishes → ArrayVec Line → ArrayVec (Node × Line) → Moves
+moves_of owners wishes moved lost = record {
+  owner = owner_in owners;
+  wishes = wishes_in wishes;
+  moved = moved.items;
+  lost = lost.items;
+}
+
+-- each line that a node asks for can be given to it
+abbrev pub HasLines : Owners → List Wanted → Type 0
+HasLines owners wanted = All (λ (w : Wanted). has_line owners w.line.0 ≡ true) wanted
+
+abbrev pub AreKnown : Owners → Wishes → Type 0
+AreKnown owners wishes = (p : ℕ) → HasLines owners (wanted_in wishes p)
+
+-- no node has more wishes than it may have
+abbrev pub AreFew : Wishes → Type 0
+AreFew wishes = (p : ℕ) → length (wanted_in wishes p) ≤ most_wishes

@@ -1,6 +1,7 @@
 //! What the parts of a processor may know of the memory that they share, and the simplest memory that keeps it.
 #![tactic(auto)]
 
+mod exchange;
 mod memory;
 mod owners;
 mod parts;
