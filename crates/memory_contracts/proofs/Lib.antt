@@ -3,3 +3,5 @@ pub mod Lists
 pub mod Numbers
 pub mod Turns
 pub mod Exchanges
+pub mod Doublewords
+pub mod Wishing

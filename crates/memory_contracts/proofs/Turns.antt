@@ -19,6 +19,10 @@ known-first has (x ∷ xs) w known e =
     let same : x ≡ w = cc in
     ap (λ (y : Wanted). has y.line.0) (sym same) ∙ known 0 w (omega arith)
 
+pub All-one : (has : ℕ → Bool) (w : Wanted) → has w.line.0 ≡ true → All (λ (w : Wanted). has w.line.0 ≡ true) (w ∷ [])
+All-one has w here zero d below = here
+All-one has w here (suc k) d below = absurd (omega (arith, below))
+
 -- ---- wishes of which some are taken off or put on
 
 pub wishes-with : (wanted : ℕ → List Wanted) (p : ℕ) (ws : List Wanted) (q : ℕ) → wishes_of (with_at wanted p ws q) ≡ cond (q == p) (wishes_of ws) (wishes_of (wanted q))

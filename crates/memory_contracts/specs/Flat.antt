@@ -89,9 +89,13 @@ abbrev pub turns : ℕ → Moves → Moves
 turns zero m = m
 turns (suc n) m = turn n (turns n m)
 
+-- before the first turn
+abbrev pub first_moves : (ℕ → Option Node) → (ℕ → List Wish) → Moves
+first_moves owner wishes = record { owner = owner; wishes = wishes; moved = []; lost = [] }
+
 -- the moves of one tick
 abbrev pub exchanged : FlatView → Moves
-exchanged v = turns v.nodes (record { owner = v.owner; wishes = v.wishes; moved = []; lost = [] })
+exchanged v = turns v.nodes (first_moves v.owner v.wishes)
 
 -- the store after it
 abbrev pub ticked : FlatView → FlatView

@@ -1,4 +1,7 @@
+pub mod First
 pub mod Flat
+pub mod FlatStores
+pub mod Kept
 pub mod Parts
-pub mod Store
 pub mod Sound
+pub mod Store

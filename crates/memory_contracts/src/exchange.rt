@@ -3,7 +3,7 @@ ghost use Rattle.std.specs.Prelude.{◌≡◌, ◌+◌, ◌<◌, ◌≤◌, ◌=
 ghost use Rattle.std.specs.List.{list_any};
 ghost use Rattle.memory_contracts.specs.Flat as Flat;
 ghost use Rattle.memory_contracts.specs.Flat.{is_at, left_by};
-ghost use Rattle.memory_contracts.specs.Parts.{AreFew, AreKnown, has_line, moves_of, nodes_in, owner_in, with_at};
+ghost use Rattle.memory_contracts.specs.Parts.{AreFew, AreKnown, AreTurns, has_line, moves_of, nodes_in, owner_in, with_at};
 
 use crate::owners::Owners;
 use crate::store::LostList;
@@ -15,7 +15,7 @@ use rsim_base::{Line, Node};
 pub const MOST_NODES: usize = 16;
 
 /// The lines that have moved in a tick.
-pub type MovedList = ArrayVec<Line, 16>;
+pub type MovedList = ArrayVec<Line, MOST_NODES>;
 
 /// The turn of node `p`: it gets the line that its oldest wish asks for.
 pub fn turn(
@@ -55,8 +55,8 @@ fn have_moved(moved: &MovedList, line: Line) -> bool
     moved.as_slice().iter().any(|other| other.0 == line.0)
 }
 
-// Whether node `p` has what has this owner.
-fn is_at(owner: Option<Node>, p: Node) -> bool
+/// Whether node `p` has what has this owner.
+pub fn is_at(owner: Option<Node>, p: Node) -> bool
     ensures { result ≡ is_at owner p.0 }
 {
     match owner {
@@ -79,4 +79,22 @@ fn give(owners: &mut Owners, moved: &mut MovedList, lost: &mut LostList, line: L
     }
     moved.push(line);
     owners.give(line, p);
+}
+
+/// The turns of all nodes in one tick, in rising order. `lost` has afterwards the lines that left a node.
+pub fn take_turns(owners: &mut Owners, wishes: &mut Wishes, lost: &mut LostList)
+    requires nodes { nodes_in wishes.old ≤ 16 }
+    requires known { AreKnown owners.old wishes.old }
+    requires few { AreFew wishes.old }
+    ensures rule { AreTurns owners.old wishes.old owners.new wishes.new lost.new }
+    ensures nodes { nodes_in wishes.new ≡ nodes_in wishes.old }
+    ensures lines { has_line owners.new ≡ has_line owners.old }
+    ensures known { AreKnown owners.new wishes.new }
+    ensures few { AreFew wishes.new }
+{
+    lost.clear();
+    let mut moved = MovedList::new();
+    for p in 0..wishes.nodes() {
+        turn(owners, wishes, &mut moved, lost, Node(p as u8));
+    }
 }

@@ -2,10 +2,12 @@
 #![tactic(auto)]
 
 mod exchange;
+mod flat;
 mod memory;
 mod owners;
 mod parts;
 mod store;
 mod wishes;
 
+pub use flat::FlatStore;
 pub use store::{CoherentStore, LostList};

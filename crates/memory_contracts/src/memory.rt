@@ -1,10 +1,13 @@
 // The bytes of memory.
-ghost use Rattle.std.specs.Prelude.{◌≡◌, ◌%◌, ◌/◌, [], true};
-ghost use Rattle.rsim_base.specs.Bytes.{count_of};
+ghost use Rattle.std.specs.Prelude.{◌≡◌, ℕ, ◌+◌, ◌<◌, ◌%◌, ◌/◌, [], true, OnOk};
+ghost use Rattle.rsim_base.specs.Bytes.{byte_of, count_of};
+ghost use Rattle.elf64_load.specs.Image.{byte_at};
+ghost use Rattle.memory_contracts.specs.First.{AreFirst};
 ghost use Rattle.memory_contracts.specs.Store.{stored, value_at};
 
 use crate::parts::{part, with_part};
-use rsim_base::Size;
+use elf64_load::Image;
+use rsim_base::{Addr, NoMemory, Size};
 use std::alloc::Global;
 use std::collections::HashMap;
 
@@ -23,6 +26,20 @@ impl Memory {
     {
         Memory {
             doublewords: HashMap::new(alloc),
+        }
+    }
+
+    /// Keeps the doubleword of a number, with the image's bytes.
+    ///
+    /// # Errors
+    /// Where memory is short.
+    pub fn add(&mut self, image: &Image, number: u64) -> Result<(), NoMemory>
+        ensures kept { OnOk result (has_doubleword self.new ≡ with_at (has_doubleword self.old) number true) }
+        ensures bytes { OnOk result ((v : ℕ) × AreFirst image.now number v × (doubleword_in self.new ≡ with_at (doubleword_in self.old) number v)) }
+    {
+        match self.doublewords.insert(number, first_value(image, number)) {
+            Ok(_) => Ok(()),
+            Err(_) => Err(NoMemory),
         }
     }
 
@@ -61,4 +78,32 @@ impl Memory {
             *doubleword = value;
         }
     }
+}
+
+// The image's doubleword of a number: 0 where that is past the last address.
+fn first_value(image: &Image, number: u64) -> u64
+    ensures { AreFirst image.now number result }
+{
+    if number < 1 << 61 {
+        first_doubleword(image, number * 8)
+    } else {
+        0
+    }
+}
+
+// The image's doubleword at a multiple of 8.
+fn first_doubleword(image: &Image, start: u64) -> u64
+    requires { start % 8 ≡ 0 }
+    ensures { (k : ℕ) → k < 8 → byte_of result 8 k ≡ byte_at image.now (start + k) }
+{
+    u64::from_be_bytes([
+        image.byte(Addr(start)),
+        image.byte(Addr(start + 1)),
+        image.byte(Addr(start + 2)),
+        image.byte(Addr(start + 3)),
+        image.byte(Addr(start + 4)),
+        image.byte(Addr(start + 5)),
+        image.byte(Addr(start + 6)),
+        image.byte(Addr(start + 7)),
+    ])
 }

@@ -1,7 +1,7 @@
 // Which node has each line.
-ghost use Rattle.std.specs.Prelude.{◌≡◌, [], Some, true};
+ghost use Rattle.std.specs.Prelude.{◌≡◌, [], None, OnOk, Some, true};
 
-use rsim_base::{Line, Node};
+use rsim_base::{Line, NoMemory, Node};
 use std::alloc::Global;
 use std::collections::HashMap;
 
@@ -20,6 +20,20 @@ impl Owners {
     {
         Owners {
             lines: HashMap::new(alloc),
+        }
+    }
+
+    /// Adds a line that no node has.
+    ///
+    /// # Errors
+    /// Where memory is short.
+    pub fn add(&mut self, line: Line) -> Result<(), NoMemory>
+        ensures kept { OnOk result (has_line self.new ≡ with_at (has_line self.old) line.0 true) }
+        ensures owner { OnOk result (owner_in self.new ≡ with_at (owner_in self.old) line.0 None) }
+    {
+        match self.lines.insert(line.0, None) {
+            Ok(_) => Ok(()),
+            Err(_) => Err(NoMemory),
         }
     }
 

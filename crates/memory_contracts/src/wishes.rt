@@ -1,11 +1,12 @@
 // The lines that nodes ask for.
-ghost use Rattle.std.specs.Prelude.{◌≡◌, ◌<◌, [], ◌∷◌, ◌++◌, drop, length, slice_get};
+ghost use Rattle.std.specs.Prelude.{◌≡◌, ℕ, ◌<◌, [], ◌∷◌, ◌++◌, drop, length, slice_get, IfOk};
 ghost use Rattle.std.specs.List.{list_any};
 ghost use Rattle.memory_contracts.specs.Store.{covers};
 ghost use Rattle.memory_contracts.specs.Parts.{nodes_in, wanted_in, wish_of, wishes_in, with_at};
 
 use arrayvec::ArrayVec;
-use rsim_base::{Line, Node};
+use rsim_base::{Line, NoMemory, Node};
+use std::alloc::Global;
 
 /// A line that a node asks for, and whether it asks to own it.
 #[derive(Clone, Copy, Debug, Default, PartialEq, Eq)]
@@ -29,10 +30,34 @@ pub const MOST_WISHES: usize = 16;
 /// The wishes of each node, the oldest first.
 #[derive(Drop)]
 pub struct Wishes {
-    lists: Vec<ArrayVec<Wanted, 16>>,
+    lists: Vec<ArrayVec<Wanted, MOST_WISHES>>,
 }
 
 impl Wishes {
+    /// No wishes, of so many nodes.
+    ///
+    /// # Errors
+    /// Where memory is short.
+    pub fn make(alloc: Global, nodes: u32) -> Result<Wishes, NoMemory>
+        ensures nodes { IfOk result (λ made. nodes_in made ≡ nodes) }
+        ensures none { IfOk result (λ made. (p : ℕ) → wanted_in made p ≡ []) }
+    {
+        let mut lists = Vec::new(alloc);
+        for _node in 0..nodes {
+            if lists.push(ArrayVec::new()).is_err() {
+                return Err(NoMemory);
+            }
+        }
+        Ok(Wishes { lists })
+    }
+
+    /// How many nodes there are.
+    pub fn nodes(&self) -> usize
+        ensures { result ≡ nodes_in self.now }
+    {
+        self.lists.len()
+    }
+
     /// How many wishes node `p` has.
     pub fn count(&self, p: Node) -> usize
         requires { p.0 < nodes_in self.now }
