@@ -5,3 +5,4 @@ pub mod Turns
 pub mod Exchanges
 pub mod Doublewords
 pub mod Wishing
+pub mod Added

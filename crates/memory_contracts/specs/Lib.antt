@@ -4,4 +4,5 @@ pub mod FlatStores
 pub mod Kept
 pub mod Parts
 pub mod Sound
+pub mod Start
 pub mod Store

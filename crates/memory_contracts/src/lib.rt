@@ -6,6 +6,7 @@ mod flat;
 mod memory;
 mod owners;
 mod parts;
+mod places;
 mod store;
 mod wishes;
 
