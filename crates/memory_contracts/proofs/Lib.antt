@@ -6,3 +6,5 @@ pub mod Exchanges
 pub mod Doublewords
 pub mod Wishing
 pub mod Added
+pub mod Sizes
+pub mod Starting

@@ -1,15 +1,20 @@
 // A store without caches.
-ghost use Rattle.std.specs.Prelude.{◌≡◌, ◌<◌};
+ghost use Rattle.std.specs.Prelude.{◌≡◌, ◌<◌, IfOk};
+ghost use Rattle.machine_config.specs.Allowed.{IsAllowed};
 ghost use Rattle.memory_contracts.specs.Flat.{exchanged, store_of, ticked};
 ghost use Rattle.memory_contracts.specs.Kept.{AreKept};
+ghost use Rattle.memory_contracts.specs.Start.{IsStart};
 
 use crate::exchange::{is_at, take_turns};
 use crate::memory::Memory;
 use crate::owners::Owners;
+use crate::places::make_places;
 use crate::store::{CoherentStore, LostList};
 use crate::wishes::{MOST_WISHES, Wanted, Wishes};
-use elf64_load::Span;
-use rsim_base::{Addr, Line, Node, Size, line_of};
+use elf64_load::{Image, Span};
+use machine_config::Config;
+use rsim_base::{Addr, Line, NoMemory, Node, Size, line_of};
+use std::alloc::Global;
 
 /// A store without caches: each line is with one node at a time, which may read it and write it, and lines go from node
 /// to node at ticks.
@@ -27,6 +32,30 @@ pub struct FlatStore {
 
 impl FlatStore {
     ghost use Rattle.memory_contracts.specs.FlatStores.{flat_of};
+
+    /// The store that an image and a configuration give.
+    ///
+    /// # Errors
+    /// Where memory is short.
+    pub fn make(alloc: Global, image: &Image, config: &Config) -> Result<FlatStore, NoMemory>
+        requires { IsAllowed config.now }
+        ensures { IfOk result (λ made. IsStart image.now config.now (store_of (flat_of made))) }
+    {
+        let line_bytes = u64::from(config.line);
+        let (memory, owners) = make_places(alloc, image, line_bytes / 8)?;
+        let wishes = Wishes::make(alloc, config.processors)?;
+        let Ok(spans) = Vec::from_slice(alloc, image.spans()) else {
+            return Err(NoMemory);
+        };
+        Ok(FlatStore {
+            memory,
+            owners,
+            wishes,
+            spans,
+            line_bytes,
+            ticks: 0,
+        })
+    }
 
     /// Grants wishes: in rising order, each node gets the line that its oldest wish asks for, and the wish is taken off. A
     /// line moves once at most; a wish for one that has moved already waits. Afterwards `lost` has the lines that left a
