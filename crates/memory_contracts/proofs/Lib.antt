@@ -8,3 +8,5 @@ pub mod Wishing
 pub mod Added
 pub mod Sizes
 pub mod Starting
+pub mod Readable
+pub mod Shapes

@@ -107,7 +107,7 @@ impl CoherentStore for FlatStore {
     }
 
     fn is_owned(&self, p: Node, line: Line) -> bool {
-        is_at(self.owners.owner(line), p)
+        self.is_near(p, line)
     }
 
     fn tick(&mut self, lost: &mut LostList) {

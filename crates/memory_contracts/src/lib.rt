@@ -8,6 +8,8 @@ mod owners;
 mod parts;
 mod places;
 mod store;
+#[cfg(test)]
+mod tests;
 mod wishes;
 
 pub use flat::FlatStore;
