@@ -1,6 +1,6 @@
 -- What no write and no wish changes: which addresses are mapped, the nodes, the size of lines, and the time.
-use Rattle.std.proofs.Common.{◌≡◌, ℕ, Bool, true, false, not, ◌&&◌, cond, refl, ap, sym, ◌∙◌}
-use Rattle.memory_contracts.specs.Store.{StoreView, Wish, after_wish, after_write, line_at, is_covered, stored, takes_wish, with_wish}
+use Rattle.std.proofs.Common.{◌≡◌, ℕ, Bool, true, false, not, ◌&&◌, cond, refl, ap, ◌∙◌}
+use Rattle.memory_contracts.specs.Store.{StoreView, after_wish, after_write, line_at, is_covered, stored, takes_wish, with_wish}
 
 pub record IsShapedAs (old new : StoreView) : Type 0 where
   pub mapped : new.mapped ≡ old.mapped

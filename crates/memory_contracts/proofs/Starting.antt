@@ -1,5 +1,5 @@
 -- What the memory of an image begins with.
-use Rattle.std.proofs.Common.{◌≡◌, ℕ, ◌-◌, ◌*◌, ◌/◌, ◌%◌, ◌^◌, ◌<◌, Bool, true, false, ◌||◌, List, [], ◌∷◌, find, Option, Some, None, is_some, option_map, unwrap_or, refl, sym, ap, ◌∙◌}
+use Rattle.std.proofs.Common.{◌≡◌, ℕ, ◌-◌, ◌*◌, ◌/◌, ◌%◌, ◌^◌, ◌<◌, Bool, true, false, List, [], ◌∷◌, find, Option, Some, None, is_some, option_map, unwrap_or, refl, sym, ap, ◌∙◌}
 use Rattle.std.specs.List.{list_any}
 use Rattle.std.proofs.Math.Nat.{zero-div}
 use Rattle.std.proofs.lemmas.Bool.{and_parts, or_parts, false_from_ne_true}
@@ -7,7 +7,7 @@ use Rattle.rsim_base.specs.Bytes.{byte_of}
 use Rattle.rsim_base.specs.declared.memory.Node.{Node}
 use Rattle.elf64_load.specs.Image.{ImageView, byte_at, content_at, holds, in_one_stack, is_mapped}
 use Rattle.memory_contracts.specs.Flat.{is_at}
-use Rattle.memory_contracts.specs.Parts.{AreFresh, byte_in, doubleword_in, has_doubleword, has_line, has_place}
+use Rattle.memory_contracts.specs.Parts.{AreFresh, byte_in, has_doubleword, has_line, has_place}
 use Rattle.memory_contracts.specs.declared.memory.Memory.{Memory}
 use Rattle.memory_contracts.specs.declared.owners.Owners.{Owners}
 

@@ -1,10 +1,7 @@
 -- The turn of a node, and the wishes that it leaves.
-use Rattle.std.proofs.Common.{◌≡◌, ℕ, zero, suc, ◌<◌, ◌≤◌, ◌==◌, Bool, true, false, cond, List, [], ◌∷◌, ◌++◌, length, drop, get_or, Option, Some, None, refl, sym, ap, ◌∙◌, arith}
+use Rattle.std.proofs.Common.{◌≡◌, ℕ, zero, suc, ◌≤◌, ◌==◌, Bool, true, false, cond, List, [], ◌∷◌, length, drop, Some, refl, sym, ap, ◌∙◌, arith}
 use Rattle.std.specs.List.{All, slice_get}
 use Rattle.std.proofs.lemmas.List.{length-drop}
-use Rattle.rsim_base.specs.declared.memory.Line.{Line}
-use Rattle.rsim_base.specs.declared.memory.Node.{Node}
-use Rattle.memory_contracts.specs.Store.{Wish}
 use Rattle.memory_contracts.specs.Flat.{Moves, is_at, given, with_left, has_moved, turn, turn_with}
 use Rattle.memory_contracts.specs.Parts.{with_at, wishes_of}
 use Rattle.memory_contracts.specs.declared.wishes.Wanted.{Wanted}

@@ -1,5 +1,5 @@
 -- A store without caches: each line is with one node at a time.
-use Rattle.std.specs.Prelude.{◌≡◌, ℕ, zero, suc, ◌+◌, ◌==◌, Bool, false, if◌then◌else◌, List, [], ◌∷◌, ◌++◌, Option, None, Some}
+use Rattle.std.specs.Prelude.{ℕ, zero, suc, ◌+◌, ◌==◌, Bool, false, if◌then◌else◌, List, [], ◌∷◌, ◌++◌, Option, None, Some}
 use Rattle.std.specs.List.{list_any}
 use Rattle.rsim_base.specs.declared.memory.Line.{Line}
 use Rattle.rsim_base.specs.declared.memory.Node.{Node}

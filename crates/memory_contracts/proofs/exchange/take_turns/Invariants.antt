@@ -1,4 +1,4 @@
-use Rattle.std.proofs.Common.{◌≡◌, ℕ, ◌≤◌, length}
+use Rattle.std.proofs.Common.{◌≡◌, ◌≤◌, length}
 use Rattle.memory_contracts.specs.Flat.{first_moves, turns}
 use Rattle.memory_contracts.specs.Parts.{AreFew, AreKnown, has_line, moves_of, nodes_in, owner_in, wishes_in}
 use Rattle.memory_contracts.proofs.exchange.take_turns.Given as goal

@@ -1,4 +1,4 @@
-use Rattle.std.proofs.Common.{ℕ, arith}
+use Rattle.std.proofs.Common.{arith}
 use Rattle.elf64_load.specs.Layout.{spans}
 use Rattle.elf64_load.specs.declared.span.Span.{Span}
 use Rattle.memory_contracts.proofs.Lists.{any-at}

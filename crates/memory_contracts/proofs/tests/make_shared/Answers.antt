@@ -1,4 +1,4 @@
-use Rattle.std.proofs.Common.{ℕ, Bool, ap, ◌∙◌, arith}
+use Rattle.std.proofs.Common.{ℕ, Bool, ap, arith}
 use Rattle.memory_contracts.proofs.tests.make_shared.Goals as goal
 
 pub invariant_of-result : goal.invariant_of-result

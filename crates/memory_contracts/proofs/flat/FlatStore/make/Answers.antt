@@ -1,4 +1,4 @@
-use Rattle.std.proofs.Common.{◌≡◌, ℕ, ◌/◌, ◌≤◌, Bool, true, ◌||◌, List, [], length, refl, sym, ap, subst, ◌∙◌, arith}
+use Rattle.std.proofs.Common.{◌≡◌, ℕ, ◌/◌, ◌≤◌, true, ◌||◌, List, length, refl, sym, ap, subst, ◌∙◌, arith}
 use Rattle.std.specs.List.{All, list_any}
 use Rattle.std.proofs.lemmas.Bool.{and_parts}
 use Rattle.std.proofs.lemmas.List.Elements.{All-nil}
@@ -6,7 +6,7 @@ use Rattle.elf64_load.specs.Image.{ImageView, holds, in_one_stack, is_mapped}
 use Rattle.elf64_load.specs.Layout.{spans}
 use Rattle.elf64_load.specs.declared.span.Span.{Span}
 use Rattle.memory_contracts.specs.Kept.{mapped_in}
-use Rattle.memory_contracts.specs.Parts.{has_doubleword, has_line, has_place, owner_in, wishes_of}
+use Rattle.memory_contracts.specs.Parts.{has_doubleword, has_line, owner_in, wishes_of}
 use Rattle.memory_contracts.specs.declared.wishes.Wanted.{Wanted}
 use Rattle.memory_contracts.proofs.Sizes.{line-doubleword, sizes_of}
 use Rattle.memory_contracts.proofs.Starting.{bytes-start, is_at-none}

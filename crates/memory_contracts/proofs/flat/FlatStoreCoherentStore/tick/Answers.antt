@@ -2,7 +2,7 @@ use Rattle.std.proofs.Common.{List, sym, subst}
 use Rattle.rsim_base.specs.declared.memory.Line.{Line}
 use Rattle.rsim_base.specs.declared.memory.Node.{Node}
 use Rattle.memory_contracts.specs.Store.{Ticks}
-use Rattle.memory_contracts.specs.Flat.{FlatView, exchanged, store_of, ticked}
+use Rattle.memory_contracts.specs.Flat.{FlatView, store_of, ticked}
 use Rattle.memory_contracts.specs.FlatStores.{flat_of}
 use Rattle.memory_contracts.proofs.Exchanges.{ticks-ticked}
 use Rattle.memory_contracts.proofs.flat.FlatStoreCoherentStore.tick.Goals as goal

@@ -1,4 +1,4 @@
-use Rattle.std.proofs.Common.{◌≡◌, ℕ, ◌+◌, ◌≤◌, ◌==◌, Bool, true, cond, List, [], ◌∷◌, ◌++◌, length, refl, sym, ap, subst, ◌∙◌, length-append, arith}
+use Rattle.std.proofs.Common.{◌≡◌, ℕ, ◌≤◌, ◌==◌, true, cond, List, [], ◌∷◌, ◌++◌, length, sym, ap, subst, ◌∙◌, length-append, arith}
 use Rattle.std.specs.List.{All}
 use Rattle.std.proofs.lemmas.List.{length-map}
 use Rattle.std.proofs.lemmas.List.Elements.{All-append}
@@ -6,7 +6,7 @@ use Rattle.memory_contracts.specs.Store.{StoreView, Wish}
 use Rattle.memory_contracts.specs.Flat.{store_of}
 use Rattle.memory_contracts.specs.Kept.{mapped_in}
 use Rattle.memory_contracts.specs.FlatStores.{flat_of}
-use Rattle.memory_contracts.specs.Parts.{byte_in, has_line, nodes_in, owner_in, wanted_in, wish_of, wishes_of, with_at}
+use Rattle.memory_contracts.specs.Parts.{byte_in, has_line, owner_in, wanted_in, wish_of, wishes_of}
 use Rattle.memory_contracts.specs.declared.wishes.Wanted.{Wanted}
 use Rattle.memory_contracts.proofs.Turns.{All-one, few-with, known-with}
 use Rattle.memory_contracts.proofs.Wishing.{after_wish-new, wishes-pushed}

@@ -1,4 +1,4 @@
-use Rattle.std.proofs.Common.{◌≡◌, ℕ, ◌+◌, ◌%◌, ◌/◌, ◌<◌, ap, ◌∙◌, arith}
+use Rattle.std.proofs.Common.{◌≡◌, ℕ, ◌+◌, ◌%◌, ◌<◌, ap, ◌∙◌, arith}
 use Rattle.rsim_base.specs.Bytes.{byte_of, count_of}
 use Rattle.memory_contracts.specs.Parts.{byte_in, doubleword_in}
 use Rattle.memory_contracts.proofs.Numbers.{byte_of_all-near, in_one_doubleword, value_at-bytes}

@@ -1,4 +1,4 @@
-use Rattle.std.proofs.Common.{ℕ, Bool, ap, ◌∙◌, arith}
+use Rattle.std.proofs.Common.{ap, ◌∙◌, arith}
 use Rattle.memory_contracts.specs.Store.{StoreView}
 use Rattle.memory_contracts.proofs.tests.Shared.tick.Goals as goal
 

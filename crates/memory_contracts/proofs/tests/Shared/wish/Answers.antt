@@ -1,4 +1,4 @@
-use Rattle.std.proofs.Common.{◌≡◌, ℕ, ◌+◌, ◌/◌, ◌<◌, Bool, ap, sym, ◌∙◌, arith}
+use Rattle.std.proofs.Common.{◌≡◌, ℕ, ◌+◌, ◌/◌, Bool, ap, sym, ◌∙◌, arith}
 use Rattle.elf64_load.specs.Image.{is_mapped}
 use Rattle.memory_contracts.specs.Flat.{store_of}
 use Rattle.memory_contracts.specs.FlatStores.{flat_of}

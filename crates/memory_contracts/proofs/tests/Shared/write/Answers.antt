@@ -1,4 +1,4 @@
-use Rattle.std.proofs.Common.{◌≡◌, ℕ, ◌+◌, Bool, ap, sym, ◌∙◌, arith}
+use Rattle.std.proofs.Common.{ℕ, ◌+◌, Bool, ap, sym, ◌∙◌, arith}
 use Rattle.rsim_base.specs.Bytes.{count_of}
 use Rattle.memory_contracts.specs.Flat.{store_of}
 use Rattle.memory_contracts.specs.FlatStores.{flat_of}
