@@ -1,0 +1,12 @@
+pub mod Digits
+pub mod Lists
+pub mod Numbers
+pub mod Turns
+pub mod Exchanges
+pub mod Doublewords
+pub mod Wishing
+pub mod Added
+pub mod Sizes
+pub mod Starting
+pub mod Readable
+pub mod Shapes
