@@ -1,0 +1,8 @@
+use Rattle.order_log.specs.Laws.{retire_keeps, drop_keeps}
+use Rattle.order_log.proofs.laws.retired_front_stays.Goals as goal
+
+pub returns-clause-retire : goal.returns-clause-retire
+returns-clause-retire c = retire_keeps
+
+pub returns-clause-drop : goal.returns-clause-drop
+returns-clause-drop c = drop_keeps

@@ -1,0 +1,3 @@
+//! Each call at its edges, and a script of calls against a plain list.
+
+use crate::OrderLog;
