@@ -1,5 +1,5 @@
 -- The lists follow the slots.
-use Rattle.std.proofs.Common.{◌≡◌, ◌≢◌, ℕ, zero, suc, ◌+◌, ◌%◌, ◌^◌, ◌<◌, ◌==◌, Bool, true, false, List, [], ◌∷◌, ◌++◌, ◌≤◌, length, map, drop, get_or, refl, sym, ap, subst, ◌∙◌, ⊎_elim, add-zero, arith}
+use Rattle.std.proofs.Common.{◌≡◌, ℕ, ◌+◌, ◌%◌, ◌^◌, ◌<◌, ◌==◌, true, false, List, [], ◌∷◌, ◌++◌, ◌≤◌, length, map, drop, refl, sym, ap, subst, ◌∙◌, ⊎_elim, add-zero, arith}
 use Rattle.std.specs.List.{All}
 use Rattle.std.proofs.Math.ListN.{set}
 use Rattle.std.proofs.lemmas.Bool.{cases_eq, eq-eqb, ne_eqb, eqb-true, false≢true}
@@ -11,8 +11,8 @@ use Rattle.order_log.specs.declared.slots.State.TheVariants.{Waiting, Retired, D
 use Rattle.order_log.specs.declared.span.Span.{Span}
 use Rattle.order_log.specs.declared.waiting.Entry.{Entry}
 use Rattle.order_log.specs.Entries.{list_number, list_of, without}
-use Rattle.order_log.specs.Slots.{all_marked, entries, entry_at, offset, changed, front_is, same_state, waits, AreListed, SameEntries, is_in_list}
-use Rattle.order_log.proofs.Listing.{entries-in, entries-out, entered-not, entered-other, entries-append, entries-round, entries-changed, entries-apart, entries-within}
+use Rattle.order_log.specs.Slots.{all_marked, entries, offset, changed, front_is, same_state, waits, AreListed, SameEntries, is_in_list}
+use Rattle.order_log.proofs.Listing.{entries-in, entries-out, entered-not, entries-append, entries-round, entries-changed, entries-apart, entries-within}
 use Rattle.order_log.proofs.Marks.{all_marked-entries}
 
 -- ---- where the entries stay
@@ -78,9 +78,9 @@ AreListed-push first number slots lists a kept is_number =
     ∙ sym (entries-append (is_in_list n b) first slots s
     ∙ ap (λ (es : List Entry). entries (is_in_list n b) first slots ++ es) (entries-in (is_in_list n b) (first + length slots) s [] (eq-eqb (a.node.0 % n) b refl)))))
     (λ other apart.
-        sym (entries-append (is_in_list n other) first slots s
-        ∙ (ap (λ (es : List Entry). entries (is_in_list n other) first slots ++ es) (entries-out (is_in_list n other) (first + length slots) s [] (ne_eqb (a.node.0 % n) other (λ e. apart (sym e))))
-        ∙ append-nil (entries (is_in_list n other) first slots))))
+    sym (entries-append (is_in_list n other) first slots s
+    ∙ (ap (λ (es : List Entry). entries (is_in_list n other) first slots ++ es) (entries-out (is_in_list n other) (first + length slots) s [] (ne_eqb (a.node.0 % n) other (λ e. apart (sym e))))
+    ∙ append-nil (entries (is_in_list n other) first slots))))
 
 -- slots of one processor that do not wait any longer
 pub AreListed-changed : (first p : ℕ) (span : Span) (state : State) (slots : List Slot) (lists : List (List Entry)) → waits state ≡ false → AreListed first slots lists

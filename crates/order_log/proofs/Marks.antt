@@ -1,12 +1,11 @@
 -- Slots that are given a new state by their entries.
-use Rattle.std.proofs.Common.{◌≡◌, ℕ, zero, suc, ◌+◌, ◌-◌, ◌%◌, ◌^◌, ◌<◌, ◌≤◌, ◌==◌, Bool, true, false, cond, not, ◌&&◌, List, [], ◌∷◌, ◌++◌, length, map, get_or, refl, sym, ap, ◌∙◌, append_assoc, add-zero, arith}
+use Rattle.std.proofs.Common.{◌≡◌, ℕ, zero, suc, ◌+◌, ◌%◌, ◌^◌, ◌<◌, ◌==◌, Bool, true, false, cond, List, [], ◌∷◌, ◌++◌, length, map, get_or, refl, sym, ap, ◌∙◌, append_assoc, add-zero, arith}
 use Rattle.std.proofs.Math.ListN.{set}
 use Rattle.std.proofs.lemmas.List.{length_push}
 use Rattle.std.proofs.lemmas.Bool.{false≢true, and_from, and_parts}
 use Rattle.rsim_base.specs.declared.memory.Access.{Access}
 use Rattle.order_log.specs.declared.slots.Slot.{Slot}
 use Rattle.order_log.specs.declared.slots.State.{State}
-use Rattle.order_log.specs.declared.slots.State.TheVariants.{Waiting, Retired, Dropped}
 use Rattle.order_log.specs.declared.span.Span.{Span}
 use Rattle.order_log.specs.declared.waiting.Entry.{Entry}
 use Rattle.order_log.specs.Entries.{is_meant}

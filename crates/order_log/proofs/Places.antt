@@ -1,6 +1,5 @@
 -- The places of slots.
-use Rattle.std.proofs.Common.{◌≡◌, ℕ, Bool, true, false, cond, not, ◌&&◌, List, [], ◌∷◌, ◌++◌, map, drop, refl, sym, ap, ◌∙◌}
-use Rattle.std.specs.List.{filter}
+use Rattle.std.proofs.Common.{◌≡◌, ℕ, Bool, true, false, cond, not, List, [], ◌∷◌, ◌++◌, map, drop, refl, sym, ap, ◌∙◌}
 use Rattle.std.proofs.lemmas.Bool.{false≢true}
 use Rattle.std.proofs.lemmas.List.{map-append}
 use Rattle.std.proofs.lemmas.List.Elements.{filter-append}
@@ -10,8 +9,8 @@ use Rattle.order_log.specs.declared.slots.State.{State}
 use Rattle.order_log.specs.declared.slots.State.TheVariants.{Waiting, Retired, Dropped}
 use Rattle.order_log.specs.declared.span.Span.{Span}
 use Rattle.order_log.specs.Entries.{is_meant}
-use Rattle.order_log.specs.Log.{Place, placed, first_final, after_pop}
-use Rattle.order_log.specs.Slots.{shown, places_of, changed, is_changed, after_change, front_is, same_state, waits}
+use Rattle.order_log.specs.Log.{Place, placed}
+use Rattle.order_log.specs.Slots.{shown, places_of, changed, after_change, front_is, same_state, waits}
 
 -- the slot of an access
 abbrev slot_of : Access → State → Slot

@@ -3,7 +3,7 @@ ghost use Rattle.std.specs.Prelude.{◌≡◌, ◌+◌, ◌<◌, ◌≤◌, ◌+
 ghost use Rattle.order_log.specs.Log.{placed, after_retire, after_drop, first_final, after_pop};
 ghost use Rattle.order_log.specs.Slots.{after_change, waits};
 
-use crate::slots::{Slot, State, is_front, mark_all, skip_dropped};
+use crate::slots::{Slot, State, is_front, mark_all, put, skip_dropped};
 use crate::span::Span;
 use crate::waiting::{Entry, WaitingLists};
 use machine_config::Config;
@@ -85,7 +85,7 @@ impl OrderLog {
         Ok(())
     }
 
-    /// Gives an access that is performed the next place.
+    /// Gives an access that is performed the next place: a store, or an atomic.
     pub fn perform(&mut self, a: Access)
         requires { 0 < self.old.spare }
         ensures places { self.new.places ≡ self.old.places ++ placed a false ∷ [] }
@@ -94,8 +94,8 @@ impl OrderLog {
         self.take_place(a);
     }
 
-    /// Gives an access that is settled the next place: a load whose value is that of an earlier store of its
-    /// processor, which is not performed yet.
+    /// Gives an access that is settled the next place: a load whose value stays. On the log this is `perform`; the
+    /// name says which kind of access takes the place.
     pub fn settle(&mut self, a: Access)
         requires { 0 < self.old.spare }
         ensures places { self.new.places ≡ self.old.places ++ placed a false ∷ [] }
@@ -141,10 +141,7 @@ impl OrderLog {
         ensures places { self.new.places ≡ self.old.places ++ placed rest.now true ∷ [] }
         ensures spare { self.old.spare ≤ self.new.spare + 1 }
     {
-        self.slots.push_back_reserved(Slot {
-            access: *rest,
-            state: State::Retired,
-        });
+        put(&mut self.slots, *rest, State::Retired);
         self.spare -= 1;
     }
 
@@ -159,10 +156,7 @@ impl OrderLog {
             index: access.index,
             slot,
         });
-        self.slots.push_back_reserved(Slot {
-            access,
-            state: State::Waiting,
-        });
+        put(&mut self.slots, access, State::Waiting);
         self.spare -= 1;
     }
 

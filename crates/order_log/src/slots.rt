@@ -1,13 +1,13 @@
 // The slots of a log: its places, and between them those that were dropped.
-ghost use Rattle.std.specs.Prelude.{◌≡◌, ℕ, ◌<◌, ◌≤◌, All, false};
+ghost use Rattle.std.specs.Prelude.{◌≡◌, ◌+◌, ◌<◌, ◌≤◌, ◌++◌, ◌∷◌, [], All, false};
 ghost use Rattle.std.specs.VecDeque.{deque_len, deque_capacity};
-ghost use Rattle.rsim_base.specs.declared.memory.Access.{Access as AccessOf};
 ghost use Rattle.order_log.specs.Slots as slot;
 
 use crate::span::Span;
 use crate::waiting::Entry;
 use rsim_base::{Access, Node};
 use std::collections::VecDeque;
+use std::mem::size_of;
 
 /// What has become of the access in a slot.
 #[derive(Clone, Copy, Debug, PartialEq, Eq)]
@@ -25,6 +25,19 @@ pub(crate) enum State {
 pub(crate) struct Slot {
     pub(crate) access: Access,
     pub(crate) state: State,
+}
+
+// A log of a long run is kept whole.
+const _: () = prove!(size_of::<Slot>() <= 48);
+
+/// Puts an access at the end.
+pub(crate) fn put(slots: &mut VecDeque<Slot>, access: Access, state: State)
+    requires { deque_len slots.old < deque_capacity slots.old }
+    ensures items { slots.new.items ≡ slots.old.items ++ record { access = access; state = state } ∷ [] }
+    ensures len { deque_len slots.new ≡ deque_len slots.old + 1 }
+    ensures capacity { deque_capacity slots.new ≡ deque_capacity slots.old }
+{
+    slots.push_back_reserved(Slot { access, state });
 }
 
 /// Gives a new state to the slots of these entries that are of the node and in the span. Slots are counted from `first`

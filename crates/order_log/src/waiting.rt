@@ -1,9 +1,9 @@
 // By node, the accesses that have their places and are not retired.
-ghost use Rattle.std.specs.Prelude.{◌≡◌, ℕ, ◌+◌, ◌-◌, ◌%◌, ◌<◌, ◌≤◌, ◌++◌, ◌∷◌, [], not, IfOk, OnOk, OnErr, filter, length, max, replicate, slice_index_or, slice_set, vec_len, vec_capacity};
+ghost use Rattle.std.specs.Prelude.{◌≡◌, ℕ, ◌+◌, ◌<◌, ◌≤◌, ◌++◌, ◌∷◌, [], IfOk, OnOk, OnErr, length, max, replicate, slice_set, vec_len, vec_capacity};
 ghost use Rattle.order_log.specs.Entries as listed;
 
 use crate::span::Span;
-use rsim_base::{Access, NoMemory, Node};
+use rsim_base::{NoMemory, Node};
 use std::alloc::{AllocError, Global};
 use std::marker::Model;
 
@@ -23,9 +23,6 @@ impl Entry {
         self.node == node && span.includes(self.index)
     }
 }
-
-// The least room that is made at once.
-const ROOM: u32 = 256;
 
 /// The accesses that wait to be retired, in a few lists: all those of a node are in the list of its number modulo the
 /// number of lists. With as many lists as nodes each has its own.

@@ -1,6 +1,6 @@
 use Rattle.std.proofs.Common.{refl, sym, ap, ◌∙◌, arith}
 use Rattle.order_log.specs.declared.slots.State.TheVariants.{Dropped}
-use Rattle.order_log.specs.Slots.{places_of, entries}
+use Rattle.order_log.specs.Slots.{places_of}
 use Rattle.order_log.proofs.Kept.{SameEntries-drop}
 use Rattle.order_log.proofs.Places.{places_of-drop}
 use Rattle.order_log.proofs.slots.skip_dropped.Goals as goal

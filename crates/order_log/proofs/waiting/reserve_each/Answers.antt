@@ -1,4 +1,4 @@
-use Rattle.std.proofs.Common.{ℕ, ◌∙◌, arith}
+use Rattle.std.proofs.Common.{◌∙◌, arith}
 use Rattle.order_log.proofs.Lists.{items_of-same, HaveRoom-set, HaveRoom-more, HaveRoom-all}
 use Rattle.order_log.proofs.waiting.reserve_each.Goals as goal
 

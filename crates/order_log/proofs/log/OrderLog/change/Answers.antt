@@ -1,9 +1,6 @@
-use Rattle.std.proofs.Common.{◌≡◌, ◌+◌, ◌%◌, ◌<◌, ℕ, List, length, map, subst, sym, ap, ◌∙◌, add-zero, arith}
+use Rattle.std.proofs.Common.{◌<◌, subst, sym, ap, ◌∙◌, arith}
 use Rattle.std.specs.List.{All}
 use Rattle.std.specs.VecDeque.{deque_len}
-use Rattle.std.proofs.lemmas.Bool.{eq-eqb, eqb-true}
-use Rattle.order_log.specs.declared.slots.Slot.{Slot}
-use Rattle.order_log.specs.declared.waiting.Entry.{Entry}
 use Rattle.order_log.specs.Slots.{offset, places_of, after_change}
 use Rattle.order_log.specs.Log.{LogView}
 use Rattle.order_log.proofs.Kept.{AreListed-changed, list_of-within, all_marked-listed}

@@ -7,4 +7,4 @@ pub invariant_of-self : goal.invariant_of-self
 invariant_of-self c =
     let l = c.self.inside in
     let listed = AreListed-same l.first l.first l.slots.items _ l.waiting.lists c.self.invariant.0 (SameEntries-append l.first l.slots.items (record { access = c.args.rest.now; state = Retired }) refl) in
-    (rw c.push_back_reserved.ensures.items listed, omega arith, omega arith)
+    (rw c.put.ensures.items listed, omega arith, omega arith)
