@@ -1,5 +1,5 @@
 // The order of accesses as it comes about.
-ghost use Rattle.std.specs.Prelude.{◌≡◌, ◌+◌, ◌<◌, ◌≤◌, ◌++◌, ◌∷◌, [], true, false, IfOk, OnOk, OnErr};
+ghost use Rattle.std.specs.Prelude.{◌≡◌, ◌+◌, ◌<◌, ◌≤◌, ◌++◌, ◌∷◌, [], true, false, IfOk, IsOk, OnOk, OnErr};
 ghost use Rattle.order_log.specs.Log.{placed, after_retire, after_drop, first_final, after_pop};
 ghost use Rattle.order_log.specs.Slots.{after_change, waits};
 
@@ -68,11 +68,12 @@ impl OrderLog {
     /// Makes room for so many places more. No other call takes memory.
     ///
     /// # Errors
-    /// Where memory is short. Then nothing changes.
+    /// Where memory is short for room that is not there yet. Then nothing changes.
     pub fn reserve(&mut self, n: u32) -> Result<(), NoMemory>
         ensures places { self.new.places ≡ self.old.places }
         ensures spare { self.old.spare ≤ self.new.spare }
         ensures ok { OnOk result (n ≤ self.new.spare) }
+        ensures succeeds { n ≤ self.old.spare → IsOk result }
         ensures err { OnErr result (self.new ≡ self.old) }
     {
         if n <= self.spare {
