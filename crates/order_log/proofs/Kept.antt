@@ -11,9 +11,8 @@ use Rattle.order_log.specs.declared.slots.State.TheVariants.{Waiting, Retired, D
 use Rattle.order_log.specs.declared.span.Span.{Span}
 use Rattle.order_log.specs.declared.waiting.Entry.{Entry}
 use Rattle.order_log.specs.Entries.{list_number, list_of, without}
-use Rattle.order_log.specs.Slots.{all_marked, entries, offset, changed, front_is, same_state, waits, AreListed, SameEntries, is_in_list}
+use Rattle.order_log.specs.Slots.{MarksAll, entries, offset, changed, front_is, same_state, waits, AreListed, SameEntries, is_in_list}
 use Rattle.order_log.proofs.Listing.{entries-in, entries-out, entered-not, entries-append, entries-round, entries-changed, entries-apart, entries-within}
-use Rattle.order_log.proofs.Marks.{all_marked-entries}
 
 -- ---- where the entries stay
 
@@ -108,10 +107,8 @@ list_of-within first p n slots lists kept fits small within =
     subst (All P) (ap (λ (k : ℕ). entries belongs k slots) (add-zero first) ∙ sym (kept.each (list_number p lists) there)) (entries-within belongs first 0 n slots fits small (omega arith))
 
 -- by its entries all slots of the node in the span are marked
-pub all_marked-listed : (first p : ℕ) (span : Span) (state : State) (es : List Entry) (slots : List Slot) (lists : List (List Entry)) → AreListed first slots lists → first < 2 ^ 64 → length slots < 2 ^ 64
-    → es ≡ list_of p lists → all_marked first p span state es slots ≡ map (changed p span state) slots
-all_marked-listed first p span state es slots lists kept fits small is =
-    let there = number_within p lists kept.some in
-    let belongs = is_in_list (length lists) (list_number p lists) in
-    ap (λ (xs : List Entry). all_marked first p span state xs slots) (is ∙ kept.each (list_number p lists) there)
-    ∙ all_marked-entries first p span state belongs (own_list (length lists) p) fits slots small
+pub MarksAll-listed : (first p : ℕ) (span : Span) (state : State) (es : List Entry) (slots slots' : List Slot) (lists : List (List Entry)) → AreListed first slots lists
+    → es ≡ list_of p lists → MarksAll first es p span state slots slots' → slots' ≡ map (changed p span state) slots
+MarksAll-listed first p span state es slots slots' lists kept is marks =
+    let b = list_number p lists in
+    marks (is_in_list (length lists) b) (own_list (length lists) p) (is ∙ kept.each b (number_within p lists kept.some))

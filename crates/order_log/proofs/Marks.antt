@@ -9,8 +9,13 @@ use Rattle.order_log.specs.declared.slots.State.{State}
 use Rattle.order_log.specs.declared.span.Span.{Span}
 use Rattle.order_log.specs.declared.waiting.Entry.{Entry}
 use Rattle.order_log.specs.Entries.{is_meant}
-use Rattle.order_log.specs.Slots.{offset, entry_at, entries, state_at, marked, all_marked, changed, waits}
+use Rattle.order_log.specs.Slots.{offset, entry_at, entries, state_at, marked, changed, waits}
 use Rattle.order_log.proofs.Listing.{is_entered, entries-in, entries-out, entered-not, entered-other, changed-yes, changed-waits_not, changed-meant_not}
+
+-- the slots of all these entries
+abbrev pub all_marked : ℕ → ℕ → Span → State → List Entry → List Slot → List Slot
+all_marked first p span state [] slots = slots
+all_marked first p span state (e ∷ es) slots = all_marked first p span state es (marked first p span state e slots)
 
 abbrev in_state : Slot → State → Slot
 in_state s state = record s { state = state }

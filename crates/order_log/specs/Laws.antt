@@ -1,6 +1,7 @@
 -- Retired places at the front stay as they are, whatever comes about behind them.
 use Rattle.std.proofs.Common.{◌≡◌, ℕ, suc, true, false, Bool, if◌then◌else◌, Some, None, ap, List, [], ◌∷◌, ◌++◌, refl, append_assoc, arith}
 use Rattle.std.specs.List.{All}
+use Rattle.std.proofs.lemmas.List.Elements.{All-push}
 use Rattle.std.proofs.lemmas.Option.{same_Some}
 use Rattle.rsim_base.specs.declared.memory.Access.{Access}
 use Rattle.order_log.specs.Log.{Place, placed, after_retire, after_drop, first_final, after_pop}
@@ -30,6 +31,10 @@ AreRetired-first x xs all = all 0 x (omega arith)
 
 pub AreRetired-rest : (x : Place) (xs : List Place) → AreRetired (x ∷ xs) → AreRetired xs
 AreRetired-rest x xs all = λ k d within. all (suc k) d (omega arith)
+
+-- an access that is taken out comes behind those before it
+pub AreRetired-push : (a : Access) (xs : List Place) → AreRetired xs → AreRetired (xs ++ placed a true ∷ [])
+AreRetired-push a xs all = All-push (λ (x : Place). x.retired ≡ true) xs (placed a true) all refl
 
 pub retire_keeps : RetireKeeps
 retire_keeps p i [] ys all = refl

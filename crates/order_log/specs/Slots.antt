@@ -69,13 +69,18 @@ state_at (suc k) state (s ∷ slots) = s ∷ state_at k state slots
 abbrev pub marked : ℕ → ℕ → Span → State → Entry → List Slot → List Slot
 marked first p span state e slots = if is_meant p span e.node.0 e.index then state_at (offset first e.slot) state slots else slots
 
-abbrev pub all_marked : ℕ → ℕ → Span → State → List Entry → List Slot → List Slot
-all_marked first p span state [] slots = slots
-all_marked first p span state (e ∷ es) slots = all_marked first p span state es (marked first p span state e slots)
-
 -- a slot that waits is in this state, if it is of processor p in the span
 abbrev pub changed : ℕ → Span → State → Slot → Slot
 changed p span state s = if waits s.state && is_meant p span s.access.node.0 s.access.index then record s { state = state } else s
+
+-- what belongs here is all that is of processor p, and maybe more
+abbrev pub HasAllOf : (Access → Bool) → ℕ → Type 0
+HasAllOf belongs p = (a : Access) → (a.node.0 == p) ≡ true → belongs a ≡ true
+
+-- by the entries of a list that has all of processor p's, all its slots in the span that wait are in this state
+abbrev pub MarksAll : ℕ → List Entry → ℕ → Span → State → List Slot → List Slot → Type 0
+MarksAll first es p span state old new =
+    (belongs : Access → Bool) → HasAllOf belongs p → es ≡ entries belongs first old → new ≡ map (changed p span state) old
 
 -- the places, where those of processor p in the span that are not retired change their state
 abbrev pub is_changed : ℕ → Span → Place → Bool

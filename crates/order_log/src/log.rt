@@ -18,8 +18,9 @@ const ROOM: u32 = 256;
 /// The places of the accesses that are performed or settled, in their order. Each is retired later or loses its place;
 /// those that stand first and are retired may be taken out.
 ///
-/// No call takes time that grows with the number of places. A call on a node's access takes time that grows with how
-/// many of its accesses have places and are not retired.
+/// No call takes time that grows with the number of places, but for `reserve` where it has to move them, which comes as
+/// seldom as their number doubles. `retire` and `drop_after` take time that grows with how many accesses of the node
+/// have places and are not retired, and `pop_final` passes each place that was dropped once.
 #[derive(Drop)]
 pub struct OrderLog {
     // The places, and between them those that were dropped.

@@ -51,7 +51,7 @@ pub(crate) fn mark_all(
     state: State,
 )
     requires { All (λ e. slot.offset first e.slot < deque_len slots.old) entries.now }
-    ensures marked { slots.new.items ≡ slot.all_marked first node.0 span state entries.now slots.old.items }
+    ensures marked { slot.MarksAll first entries.now node.0 span state slots.old.items slots.new.items }
     ensures len { deque_len slots.new ≡ deque_len slots.old }
     ensures capacity { deque_capacity slots.new ≡ deque_capacity slots.old }
 {

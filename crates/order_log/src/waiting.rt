@@ -1,5 +1,5 @@
 // By node, the accesses that have their places and are not retired.
-ghost use Rattle.std.specs.Prelude.{◌≡◌, ℕ, ◌+◌, ◌<◌, ◌≤◌, ◌++◌, ◌∷◌, [], IfOk, OnOk, OnErr, length, max, replicate, slice_set, vec_len, vec_capacity};
+ghost use Rattle.std.specs.Prelude.{◌≡◌, ℕ, ◌+◌, ◌<◌, ◌≤◌, ◌++◌, ◌∷◌, [], IfOk, IsOk, OnOk, OnErr, length, max, replicate, slice_set, vec_len, vec_capacity};
 ghost use Rattle.order_log.specs.Entries as listed;
 
 use crate::span::Span;
@@ -58,11 +58,12 @@ impl WaitingLists {
     /// Makes room in each list for so many entries more.
     ///
     /// # Errors
-    /// Where memory is short. Then nothing changes.
+    /// Where memory is short for room that is not there yet. Then nothing changes.
     pub(crate) fn reserve(&mut self, n: u32) -> Result<(), NoMemory>
         ensures lists { self.new.lists ≡ self.old.lists }
         ensures spare { self.old.spare ≤ self.new.spare }
         ensures ok { OnOk result (n ≤ self.new.spare) }
+        ensures succeeds { n ≤ self.old.spare → IsOk result }
         ensures err { OnErr result (self.new ≡ self.old) }
     {
         if n <= self.spare {

@@ -1,7 +1,7 @@
 -- What is left to mark gives the same as all did at first.
 use Rattle.std.proofs.Common.{◌≡◌, drop}
 use Rattle.std.specs.VecDeque.{deque_len, deque_capacity}
-use Rattle.order_log.specs.Slots.{all_marked}
+use Rattle.order_log.proofs.Marks.{all_marked}
 use Rattle.order_log.proofs.slots.mark_all.Given as goal
 
 abbrev pub invariant-loop-entry : goal.invariant-loop-entry
