@@ -1,0 +1,5 @@
+pub mod Entries
+pub mod Laws
+pub mod Log
+pub mod Slots
+pub mod Spans
