@@ -2,7 +2,9 @@
 #![tactic(auto)]
 
 mod memory;
+mod parts;
 #[cfg(test)]
 mod tests;
 
 pub use memory::Memory;
+pub use parts::{first_doubleword, part, with_part};

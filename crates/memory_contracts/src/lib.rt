@@ -5,7 +5,6 @@ mod exchange;
 mod flat;
 mod memory;
 mod owners;
-mod parts;
 mod places;
 mod store;
 #[cfg(test)]

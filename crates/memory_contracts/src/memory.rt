@@ -5,9 +5,9 @@ ghost use Rattle.elf64_load.specs.Image.{byte_at};
 ghost use Rattle.memory_contracts.specs.First.{AreFirst};
 ghost use Rattle.memory_contracts.specs.Store.{stored, value_at};
 
-use crate::parts::{part, with_part};
 use elf64_load::Image;
-use rsim_base::{Addr, NoMemory, Size};
+use image_memory::{first_doubleword, part, with_part};
+use rsim_base::{NoMemory, Size};
 use std::alloc::Global;
 use std::collections::HashMap;
 
@@ -89,21 +89,4 @@ fn first_value(image: &Image, number: u64) -> u64
     } else {
         0
     }
-}
-
-// The image's doubleword at a multiple of 8.
-fn first_doubleword(image: &Image, start: u64) -> u64
-    requires { start % 8 ≡ 0 }
-    ensures { (k : ℕ) → k < 8 → byte_of result 8 k ≡ byte_at image.now (start + k) }
-{
-    u64::from_be_bytes([
-        image.byte(Addr(start)),
-        image.byte(Addr(start + 1)),
-        image.byte(Addr(start + 2)),
-        image.byte(Addr(start + 3)),
-        image.byte(Addr(start + 4)),
-        image.byte(Addr(start + 5)),
-        image.byte(Addr(start + 6)),
-        image.byte(Addr(start + 7)),
-    ])
 }

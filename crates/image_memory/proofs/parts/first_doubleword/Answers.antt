@@ -1,7 +1,7 @@
 use Rattle.std.proofs.Common.{◌≡◌, ℕ, ◌+◌, ap, sym, ◌∙◌, add-zero, arith}
 use Rattle.elf64_load.specs.Image.{byte_at}
 use Rattle.image_memory.proofs.Doublewords.{byte_of-AreBytesOf}
-use Rattle.image_memory.proofs.memory.first_doubleword.Goals as goal
+use Rattle.image_memory.proofs.parts.first_doubleword.Goals as goal
 
 pub returns : goal.returns
 returns c =

@@ -2,7 +2,7 @@ use Rattle.std.proofs.Common.{◌≡◌, ◌+◌, ◌-◌, ◌*◌, ◌<◌, ◌
 use Rattle.rsim_base.specs.Bytes.{count_of}
 use Rattle.rsim_base.specs.ByteSets.{count_of-bounds}
 use Rattle.image_memory.proofs.Digits.{digits, digits-low, mod-pow-lt, replaced, replaced-in_64, byte-replaced}
-use Rattle.image_memory.proofs.memory.with_part.Goals as goal
+use Rattle.image_memory.proofs.parts.with_part.Goals as goal
 
 pub returns : goal.returns
 returns c = λ j below.

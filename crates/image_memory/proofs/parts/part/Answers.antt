@@ -1,7 +1,7 @@
 use Rattle.std.proofs.Common.{◌≡◌, ◌+◌, ◌-◌, ◌*◌, ap, ◌∙◌, arith}
 use Rattle.rsim_base.specs.Bytes.{count_of}
-use Rattle.memory_contracts.proofs.Digits.{digits, digits-part, mod-pow-lt}
-use Rattle.memory_contracts.proofs.parts.part.Goals as goal
+use Rattle.image_memory.proofs.Digits.{digits, digits-part, mod-pow-lt}
+use Rattle.image_memory.proofs.parts.part.Goals as goal
 
 pub returns-clause-bytes : goal.returns-clause-bytes
 returns-clause-bytes c = λ k below.
