@@ -1,5 +1,5 @@
 -- What is known at a line that a walk has come to: which access of its processor it is, and where the others stand.
-use Rattle.std.proofs.Common.{◌≡◌, ◌<◌, ℕ, List, length, map, Option, None, Some, slice_get, slice_index, Ok, refl, sym, ap, subst, ◌∙◌}
+use Rattle.std.proofs.Common.{◌≡◌, ◌<◌, ℕ, length, None, Some, slice_get, slice_index, refl, sym, ap, subst, ◌∙◌}
 use Rattle.std.proofs.lemmas.Option.{slice_get_within, get_or_from_slice_get}
 use Rattle.rsim_base.specs.Made.{Made}
 use Rattle.rsim_base.specs.declared.memory.Access.{Access}

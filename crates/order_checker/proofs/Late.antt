@@ -1,20 +1,18 @@
 -- The order fault of a line, as the walk finds it.
-use Rattle.std.proofs.Common.{◌≡◌, ◌<◌, ◌&&◌, nat_lt, ℕ, Bool, if◌then◌else◌, List, length, Option, None, Some, find, option_map, option_and_then, unwrap_or, slice_get, slice_index, refl, sym, ap, ◌∙◌, arith}
+use Rattle.std.proofs.Common.{◌≡◌, ◌<◌, ◌&&◌, nat_lt, ℕ, if◌then◌else◌, length, None, Some, find, option_map, option_and_then, unwrap_or, slice_get, slice_index, sym, ap, ◌∙◌, arith}
 use Rattle.std.specs.List.{take_while}
 use Rattle.std.proofs.lemmas.Option.{get_or_from_slice_get}
 use Rattle.rsim_base.specs.Made.{Made}
 use Rattle.rsim_base.specs.declared.memory.Access.{Access}
-use Rattle.rsim_base.specs.declared.memory.Model.{Model}
 use Rattle.elf64_load.specs.Image.{ImageView}
 use Rattle.order_axioms.specs.Axioms.{needs}
 use Rattle.order_axioms.specs.Counted.{counts, made_after}
 use Rattle.order_axioms.specs.declared.counting.Fences.{Fences}
 use Rattle.order_certificate.specs.Certificate.{CertificateView}
-use Rattle.order_checker.specs.declared.verdict.Rejected.{Rejected}
 use Rattle.order_checker.specs.declared.verdict.Rejected.TheVariants.{OutOfOrder}
 use Rattle.order_checker.specs.declared.walk.Walk.{Walk}
 use Rattle.order_checker.specs.Faults.{is_needed, is_late, late, place_of, programs, file_line}
-use Rattle.order_checker.specs.Firsts.{first, least}
+use Rattle.order_checker.specs.Firsts.{first}
 use Rattle.order_checker.specs.Order.{made_at}
 use Rattle.order_checker.specs.Walking.{is_needed_of, is_needed_by, IsAtLine}
 use Rattle.order_checker.proofs.AtLines.{IsAt, IsAt-from, here_is}

@@ -1,8 +1,7 @@
 -- The source of a load's byte: of its own earlier stores that stand behind it the last, else the last store before it.
-use Rattle.std.proofs.Common.{◌≡◌, ◌⊎◌, ◌<◌, ◌≤◌, ◌==◌, ◌&&◌, ◌||◌, not, nat_lt, nat_le, ℕ, zero, suc, Bool, true, false, if◌then◌else◌, List, [], ◌∷◌, ◌++◌, length, fold, Option, None, Some, option_and_then, slice_get, slice_index, refl, sym, ap, subst, inl, inr, ⊎_elim, ◌∙◌, arith}
+use Rattle.std.proofs.Common.{◌≡◌, ◌⊎◌, ◌<◌, ◌≤◌, ◌==◌, ◌&&◌, ◌||◌, not, nat_lt, ℕ, zero, suc, Bool, true, false, if◌then◌else◌, List, [], ◌∷◌, ◌++◌, length, Option, None, Some, option_and_then, slice_get, slice_index, refl, sym, ap, subst, inl, inr, ⊎_elim, ◌∙◌, arith}
 use Rattle.std.specs.List.{take_while}
-use Rattle.std.specs.Option.{option_or}
-use Rattle.std.proofs.lemmas.Bool.{and_parts, and_from, or_cases, or_left, or_right, eqb-true, eqb-false, eq-eqb, ne_eqb, ltb-true, ltb-false, lt-ltb, le-ltb, leb-true, le-leb, cases_lt, cases_Bool, cond-true, cond-false, false≢true, false_from_ne_true, not-true, not_from_false}
+use Rattle.std.proofs.lemmas.Bool.{and_parts, and_from, or_cases, or_left, or_right, eqb-true, eqb-false, eq-eqb, ne_eqb, ltb-true, ltb-false, lt-ltb, leb-true, le-leb, cases_lt, cond-false, false≢true, false_from_ne_true, not-true, not_from_false}
 use Rattle.std.proofs.lemmas.List.Sums.{fold-append}
 use Rattle.std.proofs.lemmas.Option.{slice_get_within, get_or_from_slice_get}
 use Rattle.rsim_base.specs.Accesses.{stores}
@@ -11,12 +10,12 @@ use Rattle.rsim_base.specs.declared.memory.Access.{Access}
 use Rattle.elf64_load.specs.Image.{ImageView}
 use Rattle.order_certificate.specs.Certificate.{CertificateView}
 use Rattle.order_checker.specs.declared.walk.Walk.{Walk}
-use Rattle.order_checker.specs.Faults.{place_of, writes, is_earlier, may_read, byte_from, source_byte}
+use Rattle.order_checker.specs.Faults.{writes, is_earlier, may_read, byte_from, source_byte}
 use Rattle.order_checker.specs.Firsts.{last}
 use Rattle.order_checker.specs.Standing.{passing, stands_from}
 use Rattle.order_checker.specs.Values.{stored_byte}
 use Rattle.order_checker.specs.Walking.{IsAtLine, later, latest_store, written_byte}
-use Rattle.order_checker.proofs.AtLines.{IsAt, IsAt-from, here_is}
+use Rattle.order_checker.proofs.AtLines.{IsAt-from, here_is}
 use Rattle.order_checker.proofs.FirstOnes.{below_suc, last_is}
 use Rattle.order_checker.proofs.LinePlaces.{place_is, place_once}
 use Rattle.order_checker.proofs.Lists.{Some-injective}

@@ -1,5 +1,5 @@
 -- The walks before and after one line.
-use Rattle.std.proofs.Common.{◌≡◌, ◌<◌, ◌≤◌, ◌+◌, nat_lt, ℕ, suc, List, [], ◌∷◌, ◌++◌, length, Option, None, Some, slice_get, slice_set, slice_index, refl, sym, ap, subst, ⊎_elim, ◌∙◌, add-one, arith}
+use Rattle.std.proofs.Common.{◌≡◌, ◌<◌, ◌+◌, nat_lt, ℕ, suc, List, [], ◌∷◌, ◌++◌, length, None, Some, slice_get, slice_set, slice_index, sym, ap, subst, ⊎_elim, ◌∙◌, add-one, arith}
 use Rattle.std.specs.List.{remove, take_while}
 use Rattle.std.proofs.Math.ListN.{length-set}
 use Rattle.std.proofs.lemmas.List.{length_push}

@@ -1,5 +1,5 @@
 -- A fault of an order is none of a text.
-use Rattle.std.proofs.Common.{◌≡◌, ◌⊎◌, ℕ, zero, suc, Bool, true, false, if◌then◌else◌, List, [], ◌∷◌, length, slice_get, slice_index, Option, None, Some, option_map, Result, Ok, Err, refl, sym, ap, subst, inl, inr, ⊎_elim, ◌∙◌}
+use Rattle.std.proofs.Common.{◌≡◌, ℕ, zero, suc, Bool, true, false, if◌then◌else◌, List, [], ◌∷◌, length, slice_get, slice_index, Option, None, Some, option_map, Result, Ok, Err, refl, ap, subst, inl, inr}
 use Rattle.std.specs.Option.{option_or}
 use Rattle.rsim_base.specs.Accesses.{loads}
 use Rattle.rsim_base.specs.Bytes.{count_of}
@@ -7,13 +7,13 @@ use Rattle.rsim_base.specs.declared.memory.Access.{Access}
 use Rattle.elf64_load.specs.Image.{ImageView}
 use Rattle.order_certificate.specs.Certificate.{CertificateView}
 use Rattle.sparc_meaning.specs.Arch.{is_running}
-use Rattle.sparc_meaning.specs.Run.{Ran, accesses_of}
+use Rattle.sparc_meaning.specs.Run.{Ran}
 use Rattle.sparc_meaning.specs.Stepped.{Stepped}
 use Rattle.order_checker.specs.declared.verdict.Part.{Part}
 use Rattle.order_checker.specs.declared.verdict.Rejected.{Rejected}
 use Rattle.order_checker.specs.declared.verdict.Rejected.TheVariants.{Differs}
 use Rattle.order_checker.specs.Checked.{is_of_text}
-use Rattle.order_checker.specs.Faults.{stray, stray_of, step_fault, unless, next_step, then_after, followed, then_followed, replayed, unmade, unmade_of, run_fault_of, run_fault, replay, late, wrong, line_fault_of, line_fault, first_fault, file_line, place_of}
+use Rattle.order_checker.specs.Faults.{stray, stray_of, step_fault, unless, then_after, followed, then_followed, replayed, unmade, unmade_of, run_fault_of, run_fault, replay, late, wrong, line_fault_of, line_fault, first_fault, file_line, place_of}
 use Rattle.order_checker.specs.Firsts.{first}
 use Rattle.order_checker.specs.Outcomes.{IsFault}
 use Rattle.order_checker.proofs.Lists.{Some-injective, Err-injective}

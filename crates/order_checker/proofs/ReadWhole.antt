@@ -1,5 +1,5 @@
 -- A load that memory's value explains whole.
-use Rattle.std.proofs.Common.{◌≡◌, ◌<◌, ◌+◌, ◌%◌, ◌^◌, ◌==◌, nat_lt, ℕ, [], List, None, Some, Bool, if◌then◌else◌, refl, sym, ap, subst, ◌∙◌, arith}
+use Rattle.std.proofs.Common.{◌≡◌, ◌<◌, ◌+◌, ◌%◌, ◌^◌, ◌==◌, nat_lt, ℕ, [], None, sym, ap, subst, ◌∙◌, arith}
 use Rattle.std.specs.List.{take_while}
 use Rattle.std.proofs.lemmas.Bool.{eq-eqb, cond-true}
 use Rattle.rsim_base.specs.Bytes.{byte_of, count_of, gap_of}
@@ -14,7 +14,7 @@ use Rattle.order_checker.specs.declared.walk.Walk.{Walk}
 use Rattle.order_checker.specs.Faults.{source_byte, wrong}
 use Rattle.order_checker.specs.Firsts.{first}
 use Rattle.order_checker.specs.Values.{loaded_byte}
-use Rattle.order_checker.specs.Walking.{HasWritten, IsAtLine, latest_store, written_byte}
+use Rattle.order_checker.specs.Walking.{HasWritten, IsAtLine, latest_store}
 use Rattle.order_checker.proofs.FirstOnes.{first_none-from}
 use Rattle.order_checker.proofs.Latest.{source_before}
 

@@ -1,5 +1,5 @@
 -- The verdict on an order, from its parts.
-use Rattle.std.proofs.Common.{◌≡◌, ℕ, List, length, Option, None, Some, Result, Ok, Err, IfOk, IfErr, OnOk, refl, sym, ap, subst, inl, inr, ◌∙◌}
+use Rattle.std.proofs.Common.{◌≡◌, ℕ, List, length, None, Some, Result, Ok, Err, IfOk, IfErr, OnOk, sym, ap, subst, inl, inr, ◌∙◌}
 use Rattle.std.specs.Option.{option_or}
 use Rattle.rsim_base.specs.declared.memory.Access.{Access}
 use Rattle.elf64_load.specs.Image.{ImageView}

@@ -1,20 +1,19 @@
 -- Memory after one line more, and the walk.
-use Rattle.std.proofs.Common.{◌≡◌, ◌<◌, ◌≤◌, ◌^◌, ◌&&◌, nat_lt, nat_le, ℕ, zero, suc, Bool, true, false, if◌then◌else◌, List, [], ◌∷◌, ◌++◌, length, Option, None, Some, option_and_then, slice_get, slice_index, refl, sym, ap, subst, ⊎_elim, ◌∙◌, append_assoc, arith}
+use Rattle.std.proofs.Common.{◌≡◌, ◌<◌, ◌≤◌, ◌&&◌, nat_lt, ℕ, zero, suc, Bool, true, false, if◌then◌else◌, List, [], ◌∷◌, ◌++◌, length, Some, option_and_then, slice_get, slice_index, refl, sym, ap, subst, ⊎_elim, ◌∙◌, append_assoc, arith}
 use Rattle.std.specs.List.{take_while, remove}
 use Rattle.std.proofs.lemmas.List.{length-append}
-use Rattle.std.proofs.lemmas.Bool.{cases_lt, cond-true, cond-false, le-leb, lt-leb, leb-true, false≢true}
+use Rattle.std.proofs.lemmas.Bool.{cases_lt, cond-true, cond-false, le-leb, lt-leb}
 use Rattle.rsim_base.specs.Accesses.{stores}
 use Rattle.rsim_base.specs.Bytes.{byte_of, count_of, gap_of}
 use Rattle.rsim_base.specs.declared.memory.Access.{Access}
 use Rattle.elf64_load.specs.Image.{ImageView, byte_at}
-use Rattle.image_memory.specs.Memory.{byte_in, IsWritten}
+use Rattle.image_memory.specs.Memory.{IsWritten}
 use Rattle.image_memory.specs.declared.memory.Memory.{Memory}
 use Rattle.order_checker.specs.Faults.{writes, byte_from}
 use Rattle.order_checker.specs.Firsts.{last}
 use Rattle.order_checker.specs.Standing.{passing, stands_from, IsWalked}
 use Rattle.order_checker.specs.Values.{stored_byte}
 use Rattle.order_checker.specs.Walking.{written_byte, HasWritten}
-use Rattle.order_checker.proofs.FirstOnes.{below_suc}
 use Rattle.order_checker.proofs.Lists.{append-nil}
 use Rattle.order_checker.proofs.StillStanding.{passing-same, passing_split, take_while-passing}
 

@@ -1,5 +1,5 @@
 -- The faults of the parts, in their order.
-use Rattle.std.proofs.Common.{◌≡◌, None, length, sym, ap, subst, ◌∙◌}
+use Rattle.std.proofs.Common.{sym, ap, subst, ◌∙◌}
 use Rattle.order_certificate.specs.Certificate.{CertificateView}
 use Rattle.order_checker.specs.Outcomes.{IsFault}
 use Rattle.order_checker.proofs.NoTexts.{IsFault-plain}

@@ -1,10 +1,8 @@
 -- The line, its processor's walk, and the others.
 use Rattle.std.proofs.Common.{◌≡◌, ◌<◌, List, length, get_or, Some, slice_get, refl, sym, ap, subst, ◌∙◌, arith}
-use Rattle.std.specs.Result.{OnOk}
 use Rattle.std.proofs.lemmas.Option.{slice_get_read}
 use Rattle.rsim_base.specs.declared.memory.Access.{Access}
 use Rattle.order_certificate.specs.Certificate.{CertificateView}
-use Rattle.order_checker.specs.Walking.{IsWalk}
 use Rattle.order_checker.proofs.AtLines.{node_below}
 use Rattle.order_checker.proofs.LineSteps.{HasWalked-on}
 use Rattle.order_checker.proofs.TableLines.{OnOk_both}

@@ -1,5 +1,5 @@
 -- What the walk finds, as the fault that it is.
-use Rattle.std.proofs.Common.{◌≡◌, nat_lt, ℕ, List, Option, None, Some, find, option_map, sym, ap, ◌∙◌}
+use Rattle.std.proofs.Common.{nat_lt, ℕ, Option, find, option_map, sym, ap, ◌∙◌}
 use Rattle.std.specs.List.{take_while}
 use Rattle.rsim_base.specs.declared.memory.Access.{Access}
 use Rattle.order_certificate.specs.Certificate.{CertificateView}

@@ -1,6 +1,4 @@
 -- The walk before the line, at it, and behind it.
-use Rattle.std.proofs.Common.{◌≡◌, sym}
-use Rattle.elf64_load.specs.Image.{ImageView}
 use Rattle.order_checker.proofs.AtLines.{IsAt-from}
 use Rattle.order_checker.proofs.LineSteps.{IsAtLine-reached, IsWalk-passed, left_before}
 use Rattle.order_checker.proofs.lines.walk_line.Goals as goal

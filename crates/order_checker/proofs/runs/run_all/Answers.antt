@@ -1,5 +1,5 @@
 -- One processor more, or the first with a fault.
-use Rattle.std.proofs.Common.{◌≡◌, ℕ, ◌+◌, None, ap, sym, subst, ◌∙◌, add-one, arith}
+use Rattle.std.proofs.Common.{◌≡◌, ℕ, ◌+◌, None, ap, sym, subst, add-one, arith}
 use Rattle.order_certificate.specs.Certificate.{CertificateView}
 use Rattle.order_checker.specs.Faults.{run_fault}
 use Rattle.order_checker.specs.Firsts.{first}

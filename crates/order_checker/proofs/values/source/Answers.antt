@@ -1,14 +1,13 @@
 -- The store that is found, or memory.
-use Rattle.std.proofs.Common.{◌≡◌, ◌<◌, nat_lt, ℕ, List, length, Option, None, Some, get_or, slice_get, refl, sym, ap, subst, ◌∙◌, arith}
+use Rattle.std.proofs.Common.{◌≡◌, ◌<◌, nat_lt, ℕ, List, length, Option, None, Some, get_or, slice_get, sym, ap, subst, ◌∙◌, arith}
 use Rattle.std.specs.List.{take_while}
 use Rattle.std.proofs.lemmas.Option.{slice_get_within, get_or_from_slice_get}
 use Rattle.rsim_base.specs.Bytes.{count_of, gap_of}
 use Rattle.rsim_base.specs.declared.memory.Access.{Access}
-use Rattle.elf64_load.specs.Image.{ImageView}
 use Rattle.order_certificate.specs.Certificate.{CertificateView}
 use Rattle.order_checker.specs.declared.walk.Walk.{Walk}
 use Rattle.order_checker.specs.Values.{stored_byte}
-use Rattle.order_checker.specs.Walking.{IsAtLine, latest_store}
+use Rattle.order_checker.specs.Walking.{latest_store}
 use Rattle.order_checker.proofs.Latest.{found_own, own_stands, source_own, source_before}
 use Rattle.order_checker.proofs.values.source.Goals as goal
 
