@@ -14,7 +14,7 @@ use Rattle.order_checker.specs.Faults.{writes, is_earlier, may_read, byte_from, 
 use Rattle.order_checker.specs.Firsts.{last}
 use Rattle.order_checker.specs.Standing.{passing, stands_from}
 use Rattle.order_checker.specs.Values.{stored_byte}
-use Rattle.order_checker.specs.Walking.{IsAtLine, later, latest_store, written_byte}
+use Rattle.order_checker.specs.Walking.{IsAtLine, later, latest, latest_left, written_byte}
 use Rattle.order_checker.proofs.AtLines.{IsAt-from, here_is}
 use Rattle.order_checker.proofs.FirstOnes.{below_suc, last_is}
 use Rattle.order_checker.proofs.LinePlaces.{place_is, place_once}
@@ -22,28 +22,28 @@ use Rattle.order_checker.proofs.Lists.{Some-injective}
 use Rattle.order_checker.proofs.StillStanding.{take_while-passing}
 
 -- the latest store among the accesses below n that pass
-pub record IsLatest (lines : List Access) (places : List ℕ) (byte : ℕ) (t : ℕ → Bool) (n q : ℕ) : Type 0 where
+pub record IsLatest (lines : List Access) (places : List ℕ) (test : Option Access → Bool) (t : ℕ → Bool) (n q : ℕ) : Type 0 where
   pub access : ℕ
   pub below : access < n
   pub passes : t access ≡ true
   pub place : slice_get places access ≡ Some q
-  pub writes_it : writes byte (slice_get lines q) ≡ true
-  pub last : (k j : ℕ) → k < n → t k ≡ true → slice_get places k ≡ Some j → writes byte (slice_get lines j) ≡ true → j ≤ q
+  pub writes_it : test (slice_get lines q) ≡ true
+  pub last : (k j : ℕ) → k < n → t k ≡ true → slice_get places k ≡ Some j → test (slice_get lines j) ≡ true → j ≤ q
 
-abbrev pub NoStore : List Access → List ℕ → ℕ → (ℕ → Bool) → ℕ → Type 0
-NoStore lines places byte t n = (k j : ℕ) → k < n → t k ≡ true → slice_get places k ≡ Some j → writes byte (slice_get lines j) ≡ false
+abbrev pub NoStore : List Access → List ℕ → (Option Access → Bool) → (ℕ → Bool) → ℕ → Type 0
+NoStore lines places test t n = (k j : ℕ) → k < n → t k ≡ true → slice_get places k ≡ Some j → test (slice_get lines j) ≡ false
 
-abbrev pub LatestOf : List Access → List ℕ → ℕ → (ℕ → Bool) → ℕ → Option ℕ → Type 0
-LatestOf lines places byte t n None = NoStore lines places byte t n
-LatestOf lines places byte t n (Some q) = IsLatest lines places byte t n q
+abbrev pub LatestOf : List Access → List ℕ → (Option Access → Bool) → (ℕ → Bool) → ℕ → Option ℕ → Type 0
+LatestOf lines places test t n None = NoStore lines places test t n
+LatestOf lines places test t n (Some q) = IsLatest lines places test t n q
 
 -- one that does not count leaves it
-LatestOf-same : (lines : List Access) (places : List ℕ) (byte : ℕ) (t : ℕ → Bool) (n : ℕ) (o : Option ℕ) → LatestOf lines places byte t n o →
-    ((j : ℕ) → t n ≡ true → slice_get places n ≡ Some j → writes byte (slice_get lines j) ≡ true → ⊥) → LatestOf lines places byte t (suc n) o
-LatestOf-same lines places byte t n None was apart = λ k j below passes at. ⊎_elim
+LatestOf-same : (lines : List Access) (places : List ℕ) (test : Option Access → Bool) (t : ℕ → Bool) (n : ℕ) (o : Option ℕ) → LatestOf lines places test t n o →
+    ((j : ℕ) → t n ≡ true → slice_get places n ≡ Some j → test (slice_get lines j) ≡ true → ⊥) → LatestOf lines places test t (suc n) o
+LatestOf-same lines places test t n None was apart = λ k j below passes at. ⊎_elim
     (λ lt. was k j lt passes at)
     (λ e. false_from_ne_true _ (apart j (subst (λ (m : ℕ). t m ≡ true) e passes) (subst (λ (m : ℕ). slice_get places m ≡ Some j) e at))) (below_suc k n below)
-LatestOf-same lines places byte t n (Some q) was apart = record {
+LatestOf-same lines places test t n (Some q) was apart = record {
   access = was.access;
   below = lower was.below;
   passes = was.passes;
@@ -57,9 +57,9 @@ LatestOf-same lines places byte t n (Some q) was apart = record {
     lower lt = omega arith
 
 -- one behind all others is the latest
-IsLatest-new : (lines : List Access) (places : List ℕ) (byte : ℕ) (t : ℕ → Bool) (n j : ℕ) → t n ≡ true → slice_get places n ≡ Some j → writes byte (slice_get lines j) ≡ true →
-    ((k i : ℕ) → k < n → t k ≡ true → slice_get places k ≡ Some i → writes byte (slice_get lines i) ≡ true → i ≤ j) → IsLatest lines places byte t (suc n) j
-IsLatest-new lines places byte t n j passes at wrote before = record {
+IsLatest-new : (lines : List Access) (places : List ℕ) (test : Option Access → Bool) (t : ℕ → Bool) (n j : ℕ) → t n ≡ true → slice_get places n ≡ Some j → test (slice_get lines j) ≡ true →
+    ((k i : ℕ) → k < n → t k ≡ true → slice_get places k ≡ Some i → test (slice_get lines i) ≡ true → i ≤ j) → IsLatest lines places test t (suc n) j
+IsLatest-new lines places test t n j passes at wrote before = record {
   access = n;
   below = omega arith;
   passes = passes;
@@ -72,21 +72,21 @@ IsLatest-new lines places byte t n j passes at wrote before = record {
     same : (i : ℕ) → i ≡ j → i ≤ j
     same i e = omega arith
 
-LatestOf-later : (lines : List Access) (places : List ℕ) (byte : ℕ) (t : ℕ → Bool) (n : ℕ) (o place : Option ℕ) → LatestOf lines places byte t n o → t n ≡ true → slice_get places n ≡ place →
-    LatestOf lines places byte t (suc n) (later lines byte o place)
-LatestOf-later lines places byte t n o None was passes at = LatestOf-same lines places byte t n o was (λ j t_n is wrote. none j (sym at ∙ is))
+LatestOf-later : (lines : List Access) (places : List ℕ) (test : Option Access → Bool) (t : ℕ → Bool) (n : ℕ) (o place : Option ℕ) → LatestOf lines places test t n o → t n ≡ true → slice_get places n ≡ place →
+    LatestOf lines places test t (suc n) (later (test (option_and_then (slice_get lines) place)) o place)
+LatestOf-later lines places test t n o None was passes at = LatestOf-same lines places test t n o was (λ j t_n is wrote. none j (sym at ∙ is))
   where
     none : (j : ℕ) → None ≡ Some j → ⊥
     none j e = absurd cc
-LatestOf-later lines places byte t n None (Some j) was passes at = by_test (writes byte (slice_get lines j)) refl
+LatestOf-later lines places test t n None (Some j) was passes at = by_test (test (slice_get lines j)) refl
   where
-    by_test : (b : Bool) → writes byte (slice_get lines j) ≡ b → LatestOf lines places byte t (suc n) (if b then Some j else None)
-    by_test true is = IsLatest-new lines places byte t n j passes at is (λ k i below t_k at_k wrote. absurd (false≢true (sym (was k i below t_k at_k) ∙ wrote)))
-    by_test false is = LatestOf-same lines places byte t n None was (λ i t_n at_i wrote. false≢true (sym is ∙ ap (λ (m : ℕ). writes byte (slice_get lines m)) (Some-injective (sym at ∙ at_i)) ∙ wrote))
-LatestOf-later lines places byte t n (Some q) (Some j) was passes at = by_tests (writes byte (slice_get lines j)) (nat_lt q j) refl refl
+    by_test : (b : Bool) → test (slice_get lines j) ≡ b → LatestOf lines places test t (suc n) (if b then Some j else None)
+    by_test true is = IsLatest-new lines places test t n j passes at is (λ k i below t_k at_k wrote. absurd (false≢true (sym (was k i below t_k at_k) ∙ wrote)))
+    by_test false is = LatestOf-same lines places test t n None was (λ i t_n at_i wrote. false≢true (sym is ∙ ap (λ (m : ℕ). test (slice_get lines m)) (Some-injective (sym at ∙ at_i)) ∙ wrote))
+LatestOf-later lines places test t n (Some q) (Some j) was passes at = by_tests (test (slice_get lines j)) (nat_lt q j) refl refl
   where
-    by_tests : (a b : Bool) → writes byte (slice_get lines j) ≡ a → nat_lt q j ≡ b → LatestOf lines places byte t (suc n) (if a && b then Some j else Some q)
-    by_tests true true is above = IsLatest-new lines places byte t n j passes at is (λ k i below t_k at_k wrote. let low = was.last k i below t_k at_k wrote in let high = ltb-true q j above in omega arith)
+    by_tests : (a b : Bool) → test (slice_get lines j) ≡ a → nat_lt q j ≡ b → LatestOf lines places test t (suc n) (if a && b then Some j else Some q)
+    by_tests true true is above = IsLatest-new lines places test t n j passes at is (λ k i below t_k at_k wrote. let low = was.last k i below t_k at_k wrote in let high = ltb-true q j above in omega arith)
     by_tests true false is above = record {
       access = was.access;
       below = lower was.below;
@@ -102,16 +102,16 @@ LatestOf-later lines places byte t n (Some q) (Some j) was passes at = by_tests 
 
         no_higher : (i : ℕ) → i ≡ j → i ≤ q
         no_higher i e = let high = ltb-false q j above in omega arith
-    by_tests false b is above = LatestOf-same lines places byte t n (Some q) was (λ i t_n at_i wrote. false≢true (sym is ∙ ap (λ (m : ℕ). writes byte (slice_get lines m)) (Some-injective (sym at ∙ at_i)) ∙ wrote))
+    by_tests false b is above = LatestOf-same lines places test t n (Some q) was (λ i t_n at_i wrote. false≢true (sym is ∙ ap (λ (m : ℕ). test (slice_get lines m)) (Some-injective (sym at ∙ at_i)) ∙ wrote))
 
-pub latest_passing : (lines : List Access) (places : List ℕ) (byte : ℕ) (t : ℕ → Bool) (n : ℕ) → LatestOf lines places byte t n (latest_store lines places byte (passing t n))
-latest_passing lines places byte t zero = λ k j below passes at. absurd (omega arith)
-latest_passing lines places byte t (suc n) = by_test (t n) (latest_passing lines places byte t n) refl
+pub latest_passing : (lines : List Access) (places : List ℕ) (test : Option Access → Bool) (t : ℕ → Bool) (n : ℕ) → LatestOf lines places test t n (latest test lines places (passing t n))
+latest_passing lines places test t zero = λ k j below passes at. absurd (omega arith)
+latest_passing lines places test t (suc n) = by_test (t n) (latest_passing lines places test t n) refl
   where
-    by_test : (b : Bool) → LatestOf lines places byte t n (latest_store lines places byte (passing t n)) → t n ≡ b → LatestOf lines places byte t (suc n) (latest_store lines places byte (if b then passing t n ++ n ∷ [] else passing t n))
-    by_test true before is = subst (LatestOf lines places byte t (suc n)) (sym (fold-append (λ latest k. later lines byte latest (slice_get places k)) None (passing t n) (n ∷ [])))
-        (LatestOf-later lines places byte t n (latest_store lines places byte (passing t n)) (slice_get places n) before is refl)
-    by_test false before is = LatestOf-same lines places byte t n (latest_store lines places byte (passing t n)) before (λ j passes at wrote. false≢true (sym is ∙ passes))
+    by_test : (b : Bool) → LatestOf lines places test t n (latest test lines places (passing t n)) → t n ≡ b → LatestOf lines places test t (suc n) (latest test lines places (if b then passing t n ++ n ∷ [] else passing t n))
+    by_test true before is = subst (LatestOf lines places test t (suc n)) (sym (fold-append (λ found k. later (test (option_and_then (slice_get lines) (slice_get places k))) found (slice_get places k)) None (passing t n) (n ∷ [])))
+        (LatestOf-later lines places test t n (latest test lines places (passing t n)) (slice_get places n) before is refl)
+    by_test false before is = LatestOf-same lines places test t n (latest test lines places (passing t n)) before (λ j passes at wrote. false≢true (sym is ∙ passes))
 
 -- ---- the last that a load may read from
 
@@ -131,16 +131,16 @@ last_front f g j (suc n) le same none = ⊎_elim
 
 -- what the walk finds of the load's own stores
 abbrev pub found_own : CertificateView → Access → Walk → ℕ → Option ℕ
-found_own c e w byte = latest_store c.lines w.program.places.items byte (take_while (λ k. nat_lt k e.index) w.left.items)
+found_own c e w byte = latest_left (writes byte) c.lines e w
 
-pub LatestOf-walk : (image : ImageView) (c : CertificateView) (j : ℕ) (e : Access) (w : Walk) (byte : ℕ) → IsAtLine image c j e w →
-    LatestOf c.lines w.program.places.items byte (stands_from w.program.places.items j) e.index (found_own c e w byte)
-LatestOf-walk image c j e w byte at =
+pub LatestOf-walk : (image : ImageView) (c : CertificateView) (j : ℕ) (e : Access) (w : Walk) (test : Option Access → Bool) → IsAtLine image c j e w →
+    LatestOf c.lines w.program.places.items test (stands_from w.program.places.items j) e.index (latest_left test c.lines e w)
+LatestOf-walk image c j e w test at =
     let places = w.program.places.items in
     let at_j : slice_index places e.index ≡ j = here_is image c j e w at in
     let left : take_while (λ k. nat_lt k e.index) w.left.items ≡ passing (stands_from places j) e.index =
     ap (take_while (λ k. nat_lt k e.index)) at.walk.walked.are_left ∙ take_while-passing (stands_from places j) e.index w.next (le-leb j (slice_index places e.index) (omega (arith, at_j))) at.reached in
-    subst (λ ks. LatestOf c.lines places byte (stands_from places j) e.index (latest_store c.lines places byte ks)) (sym left) (latest_passing c.lines places byte (stands_from places j) e.index)
+    subst (λ ks. LatestOf c.lines places test (stands_from places j) e.index (latest test c.lines places ks)) (sym left) (latest_passing c.lines places test (stands_from places j) e.index)
 
 -- a later line that the load may read from is of an earlier access of its processor, which stands behind it
 record IsOwnStore (c : CertificateView) (e : Access) (w : Walk) (j k : ℕ) : Type 0 where
@@ -201,7 +201,7 @@ before_it j e byte k o lt = by_test (writes byte o)
 pub source_own : (image : ImageView) (c : CertificateView) (j : ℕ) (e : Access) (w : Walk) (byte q : ℕ) (f : Access) → IsAtLine image c j e w →
     found_own c e w byte ≡ Some q → slice_get c.lines q ≡ Some f → source_byte image c.lines j e byte ≡ stored_byte f byte
 source_own image c j e w byte q f at found at_q =
-    let latest : IsLatest c.lines w.program.places.items byte (stands_from w.program.places.items j) e.index q = subst (LatestOf c.lines w.program.places.items byte (stands_from w.program.places.items j) e.index) found (LatestOf-walk image c j e w byte at) in
+    let latest : IsLatest c.lines w.program.places.items (writes byte) (stands_from w.program.places.items j) e.index q = subst (LatestOf c.lines w.program.places.items (writes byte) (stands_from w.program.places.items j) e.index) found (LatestOf-walk image c j e w (writes byte) at) in
     ap (λ o. byte_from image byte (option_and_then (slice_get c.lines) o)) (last_is (λ k. may_read j e byte k (slice_get c.lines k)) (length c.lines) q (record {
       passes = passes latest;
       below = slice_get_within c.lines q f at_q;
@@ -210,7 +210,7 @@ source_own image c j e w byte q f at found at_q =
     ∙ ap (byte_from image byte) at_q
   where
     Latest : Type 0
-    Latest = IsLatest c.lines w.program.places.items byte (stands_from w.program.places.items j) e.index q
+    Latest = IsLatest c.lines w.program.places.items (writes byte) (stands_from w.program.places.items j) e.index q
 
     stands : Latest → j ≤ q
     stands latest = subst (λ m. j ≤ m) (get_or_from_slice_get w.program.places.items latest.access q 0 latest.place) (leb-true j (slice_index w.program.places.items latest.access) latest.passes)
@@ -238,20 +238,20 @@ source_own image c j e w byte q f at found at_q =
 pub source_before : (image : ImageView) (c : CertificateView) (j : ℕ) (e : Access) (w : Walk) (byte : ℕ) → IsAtLine image c j e w →
     found_own c e w byte ≡ None → source_byte image c.lines j e byte ≡ written_byte image c.lines j byte
 source_before image c j e w byte at found =
-    let no_store : NoStore c.lines w.program.places.items byte (stands_from w.program.places.items j) e.index = subst (LatestOf c.lines w.program.places.items byte (stands_from w.program.places.items j) e.index) found (LatestOf-walk image c j e w byte at) in
+    let no_store : NoStore c.lines w.program.places.items (writes byte) (stands_from w.program.places.items j) e.index = subst (LatestOf c.lines w.program.places.items (writes byte) (stands_from w.program.places.items j) e.index) found (LatestOf-walk image c j e w (writes byte) at) in
     let within = slice_get_within c.lines j e at.stands in
     ap (λ o. byte_from image byte (option_and_then (slice_get c.lines) o))
     (last_front (λ k. may_read j e byte k (slice_get c.lines k)) (λ k. writes byte (slice_get c.lines k)) j (length c.lines) (omega arith)
     (λ k below. before_it j e byte k (slice_get c.lines k) below)
     (λ k above below. false_from_ne_true _ (λ yes. none no_store k (behind_it image c j e w byte k at above yes))))
   where
-    none : NoStore c.lines w.program.places.items byte (stands_from w.program.places.items j) e.index → (k : ℕ) → IsOwnStore c e w j k × (writes byte (slice_get c.lines k) ≡ true) → ⊥
+    none : NoStore c.lines w.program.places.items (writes byte) (stands_from w.program.places.items j) e.index → (k : ℕ) → IsOwnStore c e w j k × (writes byte (slice_get c.lines k) ≡ true) → ⊥
     none no_store k (own, wrote) = false≢true (sym (no_store own.access k own.earlier own.behind own.place) ∙ wrote)
 
 -- where a store is found its line is there, and has the byte
 pub own_stands : (image : ImageView) (c : CertificateView) (j : ℕ) (e : Access) (w : Walk) (byte q : ℕ) → IsAtLine image c j e w → found_own c e w byte ≡ Some q →
     (f : Access) × (slice_get c.lines q ≡ Some f) × (gap_of f.addr.0 byte < count_of f.size)
 own_stands image c j e w byte q at found =
-    let latest : IsLatest c.lines w.program.places.items byte (stands_from w.program.places.items j) e.index q = subst (LatestOf c.lines w.program.places.items byte (stands_from w.program.places.items j) e.index) found (LatestOf-walk image c j e w byte at) in
+    let latest : IsLatest c.lines w.program.places.items (writes byte) (stands_from w.program.places.items j) e.index q = subst (LatestOf c.lines w.program.places.items (writes byte) (stands_from w.program.places.items j) e.index) found (LatestOf-walk image c j e w (writes byte) at) in
     let f = written_by c byte q (slice_get c.lines q) refl latest.writes_it in
     (f.0, f.1, ltb-true _ _ (and_parts (stores f.0.kind) (nat_lt (gap_of f.0.addr.0 byte) (count_of f.0.size)) (ap (writes byte) (sym f.1) ∙ latest.writes_it)).1)

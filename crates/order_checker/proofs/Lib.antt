@@ -1,6 +1,7 @@
 pub mod Aligned
 pub mod AtLines
 pub mod Clean
+pub mod Covered
 pub mod FirstOnes
 pub mod Fitting
 pub mod LinePlaces

@@ -1,7 +1,7 @@
 -- Where the line of each access stands.
-use Rattle.std.proofs.Common.{◌≡◌, ◌<◌, ◌==◌, ◌||◌, ℕ, Bool, true, false, if◌then◌else◌, List, length, slice_get, Option, None, Some, is_some, refl, sym, ap, ⊎_elim, ◌∙◌, arith}
+use Rattle.std.proofs.Common.{◌≡◌, ◌<◌, ◌==◌, ◌||◌, ℕ, Bool, true, false, if◌then◌else◌, List, length, get_or, slice_get, Option, None, Some, is_some, refl, sym, ap, ⊎_elim, ◌∙◌, arith}
 use Rattle.std.proofs.lemmas.Bool.{and_parts, and_from, or_from, eqb-true, eq-eqb, leb-false, lt-leb, cond-false, false_from_ne_true, cases_order, false≢true}
-use Rattle.std.proofs.lemmas.Option.{slice_get_within}
+use Rattle.std.proofs.lemmas.Option.{slice_get_within, get_or_from_slice_get}
 use Rattle.rsim_base.specs.declared.memory.Access.{Access}
 use Rattle.order_checker.specs.declared.verdict.Rejected.{Rejected}
 use Rattle.order_checker.specs.Faults.{is_of, place_among, place_of, stray, stray_of}
@@ -81,3 +81,7 @@ stray_from n lines are among j = by_found (slice_get lines j) refl
     by_found (Some e) at =
         let before = least_none (λ k. is_of e.node.0 e.index (slice_get lines k)) j (not_before lines e.node.0 e.index j e are (record { stands = at; node = refl; index = refl })) in
         cond-false _ _ _ (or_from _ _ (lt-leb n e.node.0 (among j e at)) (ap is_some before))
+
+-- what the code reads at a place of the lines
+pub same_line : (lines kept : List Access) (at : ℕ) (f x : Access) → slice_get lines at ≡ Some f → kept ≡ lines → x ≡ get_or kept at x → x ≡ f
+same_line lines kept at f x stands same read = read ∙ ap (λ ls. get_or ls at x) same ∙ get_or_from_slice_get lines at f x stands

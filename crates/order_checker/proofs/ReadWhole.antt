@@ -14,7 +14,8 @@ use Rattle.order_checker.specs.declared.walk.Walk.{Walk}
 use Rattle.order_checker.specs.Faults.{source_byte, wrong}
 use Rattle.order_checker.specs.Firsts.{first}
 use Rattle.order_checker.specs.Values.{loaded_byte}
-use Rattle.order_checker.specs.Walking.{HasWritten, IsAtLine, latest_store}
+use Rattle.order_checker.specs.Walking.{HasWritten, IsAtLine, latest_left, touches}
+use Rattle.order_checker.proofs.Covered.{none_writes}
 use Rattle.order_checker.proofs.FirstOnes.{first_none-from}
 use Rattle.order_checker.proofs.Latest.{source_before}
 
@@ -32,7 +33,7 @@ gap_back : (addr b : ℕ) → addr < 2 ^ 64 → addr + b < 2 ^ 64 → gap_of add
 gap_back addr b fits in_64 = omega arith
 
 pub right_whole : (image : ImageView) (c : CertificateView) (j : ℕ) (e : Access) (w : Walk) (memory : Memory) (value : ℕ) → IsAtLine image c j e w → HasWritten image c.lines j memory →
-    e.addr.0 % count_of e.size ≡ 0 → take_while (λ k. nat_lt k e.index) w.left.items ≡ [] → IsValueAt image memory e.addr.0 e.size value → value ≡ e.loaded → first (wrong image c.lines j e) (count_of e.size) ≡ None
+    e.addr.0 % count_of e.size ≡ 0 → latest_left (touches e) c.lines e w ≡ None → IsValueAt image memory e.addr.0 e.size value → value ≡ e.loaded → first (wrong image c.lines j e) (count_of e.size) ≡ None
 right_whole image c j e w memory value at written aligned none_left found same = first_none-from (wrong image c.lines j e) (count_of e.size) (λ b below. right b below)
   where
     right : (b : ℕ) → b < count_of e.size → wrong image c.lines j e b ≡ None
@@ -42,7 +43,7 @@ right_whole image c j e w memory value at written aligned none_left found same =
         let byte_is : byte ≡ e.addr.0 + b = same_byte e.size e.addr.0 b aligned fits below in
         let in_64 : byte < 2 ^ 64 = subst (λ n. n < 2 ^ 64) (sym byte_is) (in_range e.size e.addr.0 b aligned fits below) in
         let gap : gap_of e.addr.0 byte ≡ b = ap (gap_of e.addr.0) byte_is ∙ gap_back e.addr.0 b fits (in_range e.size e.addr.0 b aligned fits below) in
-        let none : latest_store c.lines w.program.places.items byte (take_while (λ k. nat_lt k e.index) w.left.items) ≡ None = ap (latest_store c.lines w.program.places.items byte) none_left in
+        let none = none_writes image c j e w at none_left b below in
         let source : source_byte image c.lines j e byte ≡ loaded_byte e byte =
         source_before image c j e w byte at none ∙ sym (written byte in_64) ∙ ap (byte_in image memory) byte_is ∙ sym (found b below)
         ∙ ap (λ v. byte_of v (count_of e.size) b) same ∙ ap (byte_of e.loaded (count_of e.size)) (sym gap) in

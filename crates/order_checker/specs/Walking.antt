@@ -1,5 +1,7 @@
 -- The walk over the lines of an order: what the code keeps when it has come to a place.
-use Rattle.std.specs.Prelude.{◌≡◌, ℕ, ◌^◌, ◌<◌, nat_lt, Bool, false, ◌&&◌, if◌then◌else◌, List, length, fold, slice_get, slice_index, Option, None, Some, option_and_then}
+use Rattle.std.specs.Prelude.{◌≡◌, ℕ, ◌+◌, ◌%◌, ◌^◌, ◌<◌, ◌==◌, nat_lt, Bool, false, ◌&&◌, if◌then◌else◌, List, length, fold, slice_get, slice_index, Option, None, Some, option_and_then}
+use Rattle.std.specs.List.{take_while}
+use Rattle.rsim_base.specs.Accesses.{stores, overlap}
 use Rattle.rsim_base.specs.declared.memory.Access.{Access}
 use Rattle.rsim_base.specs.declared.memory.Model.{Model}
 use Rattle.elf64_load.specs.Image.{ImageView}
@@ -11,7 +13,10 @@ use Rattle.order_axioms.specs.declared.counting.Fences.{Fences}
 use Rattle.order_certificate.specs.Certificate.{CertificateView, IsCertificate}
 use Rattle.order_checker.specs.declared.replay.Program.{Program}
 use Rattle.order_checker.specs.declared.walk.Walk.{Walk}
-use Rattle.order_checker.specs.Faults.{run_fault, stray, writes, byte_from}
+use Rattle.order_checker.specs.Faults.{run_fault, stray, writes, byte_from, file_line}
+use Rattle.order_checker.specs.declared.verdict.Rejected.{Rejected}
+use Rattle.order_checker.specs.declared.verdict.Rejected.TheVariants.{WrongValue}
+use Rattle.order_checker.specs.Values.{loaded_byte, stored_byte}
 use Rattle.order_checker.specs.Firsts.{first, last}
 use Rattle.order_checker.specs.Programs.{IsReplayed}
 use Rattle.order_checker.specs.Standing.{IsWalked}
@@ -38,15 +43,32 @@ written_byte image lines j byte = byte_from image byte (option_and_then (slice_g
 abbrev pub HasWritten : ImageView → List Access → ℕ → Memory → Type 0
 HasWritten image lines j memory = (a : ℕ) → a < 2 ^ 64 → byte_in image memory a ≡ written_byte image lines j a
 
--- the later one of two places, of which the second counts where its line writes the byte
-abbrev pub later : List Access → ℕ → Option ℕ → Option ℕ → Option ℕ
-later lines byte latest None = latest
-later lines byte None (Some j) = if writes byte (slice_get lines j) then Some j else None
-later lines byte (Some k) (Some j) = if writes byte (slice_get lines j) && nat_lt k j then Some j else Some k
+-- ---- stores that are still to come
 
--- of these accesses of a program, the last place whose line writes the byte
-abbrev pub latest_store : List Access → List ℕ → ℕ → List ℕ → Option ℕ
-latest_store lines places byte ks = fold (λ latest k. later lines byte latest (slice_get places k)) None ks
+-- a store that has a byte in common with the access
+abbrev pub touches : Access → Option Access → Bool
+touches e None = false
+touches e (Some f) = stores f.kind && overlap f e
+
+-- the later one of two places, where the second counts
+abbrev pub later : Bool → Option ℕ → Option ℕ → Option ℕ
+later counts latest None = latest
+later counts None (Some j) = if counts then Some j else None
+later counts (Some k) (Some j) = if counts && nat_lt k j then Some j else Some k
+
+-- of these accesses of a program, the last place whose line passes
+abbrev pub latest : (Option Access → Bool) → List Access → List ℕ → List ℕ → Option ℕ
+latest test lines places ks = fold (λ found k. later (test (option_and_then (slice_get lines) (slice_get places k))) found (slice_get places k)) None ks
+
+-- of the accesses before this one whose lines are still to come, the last place whose line passes
+abbrev pub latest_left : (Option Access → Bool) → List Access → Access → Walk → Option ℕ
+latest_left test lines e w = latest test lines w.program.places.items (take_while (λ k. nat_lt k e.index) w.left.items)
+
+-- byte b of the load at place j is another than the store has there
+abbrev pub differs_from : Access → ℕ → Access → ℕ → Option Rejected
+differs_from f j e b =
+    let byte = (e.addr.0 + b) % 2 ^ 64 in
+    if stored_byte f byte == loaded_byte e byte then None else Some (WrongValue (file_line j) b (stored_byte f byte) (loaded_byte e byte))
 
 -- ---- the walks of all processors
 

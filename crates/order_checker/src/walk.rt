@@ -1,8 +1,8 @@
 // The walk over the lines, as one processor sees it.
-ghost use Rattle.std.specs.Prelude.{◌≡◌, [], ℕ, ◌+◌, ◌<◌, ◌≤◌, List, find, length, nat_lt, slice_get, true, OnOk};
+ghost use Rattle.std.specs.Prelude.{◌≡◌, ℕ, ◌+◌, ◌<◌, ◌≤◌, List, find, length, nat_lt, option_and_then, slice_get, OnOk};
 ghost use Rattle.std.specs.List.{remove, take_while};
-ghost use Rattle.order_checker.specs.Faults.{writes as writes_byte};
-ghost use Rattle.order_checker.specs.Walking.{later as later_of};
+ghost use Rattle.order_checker.specs.Faults.{writes};
+ghost use Rattle.order_checker.specs.Walking.{later as later_of, touches};
 
 use crate::replay::Program;
 use rsim_base::{Access, Model, NoMemory};
@@ -20,7 +20,7 @@ pub struct Walk {
 
 impl Walk {
     ghost use Rattle.order_checker.specs.Standing.{IsWalked};
-    ghost use Rattle.order_checker.specs.Walking.{is_needed_by, latest_store};
+    ghost use Rattle.order_checker.specs.Walking.{is_needed_by, latest_left};
 
     /// Before the first line.
     pub fn new(alloc: Global, program: Program) -> Walk
@@ -62,24 +62,32 @@ impl Walk {
             .find(|k| self.program.is_needed(model, lines, line, *k))
     }
 
-    /// Whether none of the accesses before access `i` is left.
-    pub fn is_next(&self, i: u32) -> bool
-        ensures { result ≡ true → take_while (λ k. nat_lt k i) self.now.left.items ≡ [] }
-    {
-        self.left.front().is_none_or(|k| *k >= i)
-    }
-
-    /// Of the accesses before access `i` that are left, where the line stands of the one that writes the byte and whose
+    /// Of the accesses before this one that are left, where the line stands of the store that writes the byte and whose
     /// line stands last.
-    pub fn latest_store(&self, lines: &[Access], i: u32, byte: u64) -> Option<u32>
-        ensures { result ≡ latest_store lines.now self.now.program.places.items byte (take_while (λ k. nat_lt k i) self.now.left.items) }
+    pub fn latest_store(&self, lines: &[Access], line: &Access, byte: u64) -> Option<u32>
+        ensures { result ≡ latest_left (writes byte) lines.now line.now self.now }
     {
         self.left
             .iter()
             .copied()
-            .take_while(|k| *k < i)
-            .fold(None, |latest, k| {
-                later(lines, byte, latest, self.place(k))
+            .take_while(|k| *k < line.index)
+            .fold(None, |found, k| {
+                let place = self.place(k);
+                later(found, place, does_write(lines, place, byte))
+            })
+    }
+
+    /// The same of the store that has a byte in common with it.
+    pub fn latest_overlap(&self, lines: &[Access], line: &Access) -> Option<u32>
+        ensures { result ≡ latest_left (touches line.now) lines.now line.now self.now }
+    {
+        self.left
+            .iter()
+            .copied()
+            .take_while(|k| *k < line.index)
+            .fold(None, |found, k| {
+                let place = self.place(k);
+                later(found, place, does_touch(lines, place, line))
             })
     }
 
@@ -109,28 +117,42 @@ impl Walk {
     }
 }
 
-// The later one of two places, of which the second counts where its line writes the byte.
-fn later(lines: &[Access], byte: u64, latest: Option<u32>, place: Option<u32>) -> Option<u32>
-    ensures { result ≡ later_of lines.now byte latest place }
+// The later one of two places, where the second counts.
+fn later(found: Option<u32>, place: Option<u32>, counts: bool) -> Option<u32>
+    ensures { result ≡ later_of counts found place }
 {
     let Some(place) = place else {
-        return latest;
+        return found;
     };
-    if !writes(lines, place, byte) {
-        return latest;
-    }
-    match latest {
-        Some(latest) if latest >= place => Some(latest),
-        _ => Some(place),
+    match found {
+        None => counts.then_some(place),
+        Some(before) if counts && before < place => Some(place),
+        Some(before) => Some(before),
     }
 }
 
 // Whether the line at a place writes the byte.
-fn writes(lines: &[Access], place: u32, byte: u64) -> bool
-    ensures { result ≡ writes_byte byte (slice_get lines.now place) }
+fn does_write(lines: &[Access], place: Option<u32>, byte: u64) -> bool
+    ensures { result ≡ writes byte (option_and_then (slice_get lines.now) place) }
 {
-    match lines.get(place as usize) {
+    match line_at(lines, place) {
         Some(line) => line.kind.stores() && byte.wrapping_sub(line.addr.0) < line.size.count(),
         None => false,
     }
+}
+
+// Whether the line at a place is of a store that has a byte in common with the access.
+fn does_touch(lines: &[Access], place: Option<u32>, access: &Access) -> bool
+    ensures { result ≡ touches access.now (option_and_then (slice_get lines.now) place) }
+{
+    match line_at(lines, place) {
+        Some(line) => line.kind.stores() && line.overlaps(access),
+        None => false,
+    }
+}
+
+fn line_at(lines: &[Access], place: Option<u32>) -> Option<Access>
+    ensures { result ≡ option_and_then (slice_get lines.now) place }
+{
+    lines.get(place? as usize).copied()
 }

@@ -6,19 +6,17 @@ use Rattle.rsim_base.specs.Bytes.{count_of, gap_of}
 use Rattle.rsim_base.specs.declared.memory.Access.{Access}
 use Rattle.order_certificate.specs.Certificate.{CertificateView}
 use Rattle.order_checker.specs.declared.walk.Walk.{Walk}
+use Rattle.order_checker.specs.Faults.{writes}
 use Rattle.order_checker.specs.Values.{stored_byte}
-use Rattle.order_checker.specs.Walking.{latest_store}
+use Rattle.order_checker.specs.Walking.{latest_left}
+use Rattle.order_checker.proofs.LinePlaces.{same_line}
 use Rattle.order_checker.proofs.Latest.{found_own, own_stands, source_own, source_before}
 use Rattle.order_checker.proofs.values.source.Goals as goal
 
 -- what is found in the lines as the code has them
 found_is : (order : CertificateView) (lines : List Access) (e : Access) (w : Walk) (byte : ℕ) (o : Option ℕ) → lines ≡ order.lines →
-    o ≡ latest_store lines w.program.places.items byte (take_while (λ k. nat_lt k e.index) w.left.items) → found_own order e w byte ≡ o
-found_is order lines e w byte o same is = sym (is ∙ ap (λ ls. latest_store ls w.program.places.items byte (take_while (λ k. nat_lt k e.index) w.left.items)) same)
-
--- the line at the place that is found, and what the code reads there
-same_line : (lines kept : List Access) (at : ℕ) (f x : Access) → slice_get lines at ≡ Some f → kept ≡ lines → x ≡ get_or kept at x → x ≡ f
-same_line lines kept at f x stands same read = read ∙ ap (λ ls. get_or ls at x) same ∙ get_or_from_slice_get lines at f x stands
+    o ≡ latest_left (writes byte) lines e w → found_own order e w byte ≡ o
+found_is order lines e w byte o same is = sym (is ∙ ap (λ ls. latest_left (writes byte) ls e w) same)
 
 pub index-requires : goal.index-requires
 index-requires c =
