@@ -6,12 +6,6 @@ mod order_file;
 mod processor;
 mod refusal;
 mod report_text;
-#[cfg(test)]
-mod tests;
-#[cfg(test)]
-mod tests_commands;
-#[cfg(test)]
-mod tests_segments;
 mod text;
 
 pub use command::{Reported, run_command};
