@@ -8,12 +8,6 @@ mod processor;
 mod program;
 mod refusal;
 mod report_text;
-#[cfg(test)]
-mod tests;
-#[cfg(test)]
-mod tests_commands;
-#[cfg(test)]
-mod tests_segments;
 mod text;
 mod verdict;
 

@@ -1,0 +1,56 @@
+// Cases of an order that is written in several pieces, and of refusals that no other case makes.
+use crate::executables::executable;
+use crate::fields::field;
+use crate::outcome::{Outcome, outcome_of};
+use crate::outside::{failing, refused};
+use anyhow::{Result, bail};
+use elf64_load::ElfFault;
+use rsim_top::{File, Refusal};
+use std::alloc::Global;
+
+/// `CALL | LEAST | CYCLES | CODE`: the call of the shelf with this number fails, and what is left of the order is
+/// a part from its start, of so many bytes at least, and not the whole.
+pub fn cut(alloc: Global, case: &str) -> Result<Outcome> {
+    let (call, case) = field(case);
+    let (least, case) = field(case);
+    let (cycles, code) = field(case);
+    let exe = executable(alloc, code)?;
+    let line = format!(in alloc; "exe config {cycles} order")?;
+    let calls = vec![in alloc; call.parse::<u32>()?]?;
+    let whole = failing(alloc, &line, b"", &exe, Vec::new(alloc), Vec::new(alloc))?;
+    let cut = failing(alloc, &line, b"", &exe, calls, Vec::new(alloc))?;
+    outcome_of(
+        alloc,
+        "a part",
+        found_in(&whole, &cut, least.parse::<usize>()?),
+    )
+}
+
+// What a run left whose order could not be written whole, beside what it leaves where it can.
+fn found_in(whole: &str, cut: &str, least: usize) -> &'static str {
+    let Some(part) = cut.strip_prefix("6 cannot write order\norder:\n") else {
+        return "another answer";
+    };
+    let Some((_, order)) = whole.split_once("order:\n") else {
+        return "no order";
+    };
+    if !order.starts_with(part) {
+        "no part"
+    } else if part.len() < least || order.len() <= part.len() {
+        "another length"
+    } else {
+        "a part"
+    }
+}
+
+/// `STATUS TEXT | NAME` of a refusal.
+pub fn refusal(alloc: Global, case: &str) -> Result<Outcome> {
+    let (wanted, name) = field(case);
+    let refusal = match name.trim() {
+        "long order" => Refusal::Big(File::Order),
+        "shared block" => Refusal::Elf(ElfFault::SharedBlock(0, 1)),
+        "memory" => Refusal::Memory,
+        _ => bail!("no such refusal: {name}"),
+    };
+    outcome_of(alloc, wanted, &refused(alloc, refusal)?)
+}
