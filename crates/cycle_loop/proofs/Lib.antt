@@ -1,0 +1,16 @@
+pub mod Adding
+pub mod Allowed
+pub mod Closing
+pub mod Cycling
+pub mod Explained
+pub mod Keeping
+pub mod Listing
+pub mod Looping
+pub mod Mapped
+pub mod Parting
+pub mod Places
+pub mod Runs
+pub mod Starting
+pub mod Turning
+pub mod Waiting
+pub mod Written

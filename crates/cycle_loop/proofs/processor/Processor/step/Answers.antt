@@ -1,0 +1,12 @@
+use Rattle.std.proofs.Common.{ap}
+use Rattle.sparc_meaning.specs.Stepped.{Stepped}
+use Rattle.cycle_loop.proofs.Parting.{HaveNumbers-more, step_mapped}
+use Rattle.cycle_loop.proofs.processor.Processor.step.Goals as goal
+
+pub perform-requires-clause-mapped : goal.perform-requires-clause-mapped
+perform-requires-clause-mapped g c =
+    step_mapped c.args.image.now (g.M.CoherentStore.meaning c.args.store.now) c.args.self.now.arch c.args.value c.step_at-act.result c.requires.mapped (ap (λ (s : Stepped). s.act) c.step_at-act.ensures.step)
+
+pub returns-clause-numbers : goal.returns-clause-numbers
+returns-clause-numbers g c =
+    HaveNumbers-more c.args.p.0 c.args.self.now.accesses c.step_at-act.result c.args.log.now.places c.retire.new.log.places c.retire.ensures.numbers c.retire.ensures.log

@@ -1,0 +1,13 @@
+pub mod Answers
+pub mod Kept
+pub mod Lines
+pub mod Machine
+pub mod MachineOf
+pub mod Machines
+pub mod Processors
+pub mod Ready
+pub mod Stands
+pub mod Start
+pub mod Stores
+pub mod Turns
+pub mod Waits

@@ -1,0 +1,12 @@
+//! Processors that make one step at a time over a store of lines that they share, and the order of their accesses.
+#![tactic(auto)]
+
+mod lines;
+mod machine;
+mod processor;
+#[cfg(test)]
+mod tests;
+mod turn;
+mod turns;
+
+pub use machine::Machine;
