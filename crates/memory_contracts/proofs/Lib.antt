@@ -8,3 +8,4 @@ pub mod Sizes
 pub mod Starting
 pub mod Readable
 pub mod Shapes
+pub mod Protocol

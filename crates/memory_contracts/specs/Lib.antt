@@ -3,6 +3,7 @@ pub mod Flat
 pub mod FlatStores
 pub mod Kept
 pub mod Parts
+pub mod Protocol
 pub mod Sound
 pub mod Start
 pub mod Store

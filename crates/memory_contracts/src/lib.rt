@@ -3,6 +3,7 @@
 
 mod exchange;
 mod flat;
+mod laws;
 mod memory;
 mod owners;
 mod places;
@@ -12,4 +13,5 @@ mod tests;
 mod wishes;
 
 pub use flat::FlatStore;
+pub use laws::lines_stay_coherent;
 pub use store::{CoherentStore, LostList};

@@ -3,7 +3,7 @@ ghost use Rattle.std.specs.Prelude.{◌≡◌, ℕ, ◌<◌, ◌≤◌};
 ghost use Rattle.elf64_load.specs.Image.{is_mapped};
 ghost use Rattle.memory_contracts.specs.FlatStores.{flat_of};
 
-use crate::{CoherentStore, FlatStore, LostList};
+use crate::{CoherentStore, FlatStore, LostList, lines_stay_coherent};
 use elf64_load::{Image, load};
 use machine_config::read;
 use rsim_base::{Addr, Line, Node, Size};
@@ -124,6 +124,7 @@ fn states<S: CoherentStore>(store: &S, p: Node, line: Line) -> (bool, bool)
 
 #[test]
 fn memory_begins_with_the_image(rt: HostRuntime) -> Result<(), Fail> {
+    lines_stay_coherent();
     let mut shared = make_shared(&rt, rt.alloc())?;
     let mut lost = LostList::new();
     assert_eq!(rt; shared.read(&rt, 1, DATA, Size::B8), None);
