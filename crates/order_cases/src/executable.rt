@@ -2,7 +2,8 @@
 use std::alloc::{AllocError, Global};
 
 // Up to e_phoff: ELF64, big-endian, SPARC V9, entered at 0x100000.
-const START: &[u8] = b"\x7FELF\x02\x02\x01\0\0\0\0\0\0\0\0\0\0\x02\0\x2B\0\0\0\x01\0\0\0\0\0\x10\0\0";
+const START: &[u8] =
+    b"\x7FELF\x02\x02\x01\0\0\0\0\0\0\0\0\0\0\x02\0\x2B\0\0\0\x01\0\0\0\0\0\x10\0\0";
 
 // From e_phoff on: two program headers of 56 bytes behind this one.
 const REST: &[u8] = b"\0\0\0\0\0\0\0\x40\0\0\0\0\0\0\0\0\0\0\0\0\0\x40\0\x38\0\x02\0\0\0\0\0\0";
