@@ -32,8 +32,15 @@ impl Outside {
         shelf.set("exe", executable)?;
         shelf.set("order", self.order.as_bytes())?;
         let mut told = MemSink::make(alloc, copied(alloc, &self.failing_sink)?)?;
-        let answer = check_command(alloc, &split(alloc, self.words.as_str())?, &mut shelf, &mut told);
-        if shelf.file("exe") != Some(executable) || shelf.file("order") != Some(self.order.as_bytes()) {
+        let answer = check_command(
+            alloc,
+            &split(alloc, self.words.as_str())?,
+            &mut shelf,
+            &mut told,
+        );
+        if shelf.file("exe") != Some(executable)
+            || shelf.file("order") != Some(self.order.as_bytes())
+        {
             anyhow::bail!("a file has changed");
         }
         shown(alloc, answer, told.bytes())
