@@ -1,3 +1,5 @@
+pub mod Bags
+pub mod Carrier
 pub mod First
 pub mod Flat
 pub mod FlatStores
