@@ -8,4 +8,6 @@ pub mod Sizes
 pub mod Starting
 pub mod Readable
 pub mod Shapes
+pub mod Carriers
+pub mod Choices
 pub mod Protocol

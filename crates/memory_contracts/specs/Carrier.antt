@@ -1,5 +1,6 @@
 -- What a carrier of messages means: the messages that are under way between nodes of a mesh, in the order of their sending.
-use Rattle.std.specs.Prelude.{◌≡◌, ℕ, ◌+◌, ◌-◌, ◌/◌, ◌%◌, ◌<◌, ◌≤◌, ◌==◌, nat_le, Bool, true, false, ◌&&◌, if◌then◌else◌, List, [], ◌∷◌, ◌++◌, length, map, slice_get, Option, None, Some}
+use Rattle.std.specs.Prelude.{◌≡◌, ℕ, ◌+◌, ◌/◌, ◌%◌, ◌<◌, ◌≤◌, ◌==◌, nat_le, Bool, true, false, ◌&&◌, if◌then◌else◌, List, [], ◌∷◌, ◌++◌, length, map, slice_get, Option, None, Some}
+use Rattle.std.specs.Int.{abs_diff, div_ceil}
 use Rattle.std.specs.Option.{option_or}
 use Rattle.std.specs.List.{filter, position, remove}
 use Rattle.memory_contracts.specs.declared.message.Class.{Class}
@@ -44,12 +45,15 @@ class_of InvAck = Reply
 class_of RecallAck = Reply
 class_of Done = Reply
 
+-- from the lowest to the highest
+abbrev pub rank : Class → ℕ
+rank Ask = 0
+rank Order = 1
+rank Give = 2
+rank Reply = 3
+
 abbrev pub same_class : Class → Class → Bool
-same_class Ask Ask = true
-same_class Order Order = true
-same_class Give Give = true
-same_class Reply Reply = true
-same_class _ _ = false
+same_class c d = rank c == rank d
 
 abbrev pub carries_bytes : MsgKind → Bool
 carries_bytes Put = true
@@ -57,18 +61,19 @@ carries_bytes Grant = true
 carries_bytes RecallAck = true
 carries_bytes _ = false
 
--- Eight bytes say what the message is about; then come the bytes that it carries. The last flit may be filled in part.
+-- the flits of a message that carries so many bytes: eight bytes before them say what it is about, and the last flit may be
+-- filled in part
+abbrev pub packet_flits : ℕ → ℕ → ℕ
+packet_flits flit_bytes bytes = div_ceil (8 + bytes) flit_bytes
+
 abbrev pub flits_of : ℕ → ℕ → MsgKind → ℕ
-flits_of flit_bytes line_bytes kind = (8 + (if carries_bytes kind then line_bytes else 0) + (flit_bytes - 1)) / flit_bytes
+flits_of flit_bytes line_bytes kind = packet_flits flit_bytes (if carries_bytes kind then line_bytes else 0)
 
 -- ---- the mesh
 
-abbrev pub apart : ℕ → ℕ → ℕ
-apart x y = (x - y) + (y - x)
-
 -- how many links lie between two nodes: columns and rows
 abbrev pub distance : ℕ → ℕ → ℕ → ℕ
-distance width p q = apart (p % width) (q % width) + apart (p / width) (q / width)
+distance width p q = abs_diff (p % width) (q % width) + abs_diff (p / width) (q / width)
 
 -- A flit crosses a link in a tick, and the flits of a message go one behind the other: so it has not arrived before this.
 abbrev pub earliest : ℕ → Flight → ℕ

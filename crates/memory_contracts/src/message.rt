@@ -6,7 +6,7 @@ use rsim_base::{Line, Node};
 
 /// The class of a message, from the lowest to the highest. Each class has rooms of its own, so that a message never waits
 /// for one of a lower class.
-#[derive(Clone, Copy, Debug, PartialEq, Eq)]
+#[derive(Clone, Copy, Debug, PartialEq, Eq, PartialOrd, Ord)]
 pub enum Class {
     /// A node asks for a line, or gives one back.
     Ask,
