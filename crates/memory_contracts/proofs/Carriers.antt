@@ -2,9 +2,9 @@
 use Rattle.std.proofs.Common.{◌≡◌, ◌⊎◌, inl, inr, ℕ, zero, suc, ◌+◌, ◌*◌, ◌<◌, ◌≤◌, ◌==◌, nat_lt, nat_le, Bool, true, false, cond, ◌&&◌, List, [], ◌∷◌, ◌++◌, length, map, slice_get, get_or, Option, None, Some, refl, sym, ap, subst, ◌∙◌, arith}
 use Rattle.std.specs.List.{filter, remove}
 use Rattle.std.proofs.lemmas.Bool.Decides.{nat_tests}
-use Rattle.std.proofs.lemmas.Bool.{leb-true, le-leb, eqb-true, ltb-true, lt-ltb, cases_Bool}
+use Rattle.std.proofs.lemmas.Bool.{le-leb, lt-ltb}
 use Rattle.memory_contracts.specs.Bags.{marked, ticked}
-use Rattle.memory_contracts.specs.Carrier.{Flight, CarrierView, CarrierTicks, class_of, earliest, has_class, rank, same_class, sent_by, unmarked}
+use Rattle.memory_contracts.specs.Carrier.{Flight, CarrierView, CarrierTicks, class_of, earliest, has_class, same_class, sent_by, unmarked}
 use Rattle.memory_contracts.specs.Carrying.{slice_get-map, marked-timely}
 use Rattle.memory_contracts.specs.Packets.{carrier_of, flight_of, flights_of}
 use Rattle.memory_contracts.specs.declared.mesh.Mesh.{Mesh}
@@ -31,6 +31,17 @@ pub slice_get-get_or : {A : Type 0} (xs : List A) (i : ℕ) (d : A) → i < leng
 slice_get-get_or [] i d below = absurd (omega (arith, below))
 slice_get-get_or (x ∷ xs) zero d below = refl
 slice_get-get_or (x ∷ xs) (suc i) d below = slice_get-get_or xs i d (omega (arith, below))
+
+pub slice_get-map_at : {A B : Type 0} (g : A → B) (xs : List A) (i : ℕ) (x : A) → slice_get xs i ≡ Some x → slice_get (map g xs) i ≡ Some (g x)
+slice_get-map_at g [] i x e = absurd cc
+slice_get-map_at g (y ∷ ys) zero x e = let same : y ≡ x = cc in ap (λ z. Some (g z)) same
+slice_get-map_at g (y ∷ ys) (suc i) x e = slice_get-map_at g ys i x e
+
+pub map-remove : {A B : Type 0} (g : A → B) (xs : List A) (k : ℕ) → map g (remove xs k) ≡ remove (map g xs) k
+map-remove g [] zero = refl
+map-remove g [] (suc k) = refl
+map-remove g (x ∷ xs) zero = refl
+map-remove g (x ∷ xs) (suc k) = ap (λ ys. g x ∷ ys) (map-remove g xs k)
 
 -- ---- how many pass a test
 
@@ -123,6 +134,17 @@ sent_by-marked width now p c (f ∷ fs) =
 pub marked-marked : (width before now : ℕ) (packets : List Packet) → flights_of width now packets ≡ map (marked width now) (flights_of width before packets)
 marked-marked width before now [] = refl
 marked-marked width before now (s ∷ ss) = ap (λ fs. marked width now (flight_of s) ∷ fs) (marked-marked width before now ss)
+
+-- a tick later
+pub ticked-is : (mesh : Mesh) (now : ℕ) (packets : List Packet) → carrier_of mesh (now + 1) packets ≡ ticked (carrier_of mesh now packets)
+ticked-is mesh now packets = λ i. record {
+  flights = marked-marked mesh.width now (now + 1) packets i;
+  ticks = now + 1;
+  nodes = mesh.nodes;
+  width = mesh.width;
+  flit_bytes = mesh.flit_bytes;
+  line_bytes = mesh.line_bytes;
+}
 
 unmarked-marked : (width now : ℕ) (flights : List Flight) → map unmarked (map (marked width now) flights) ≡ map unmarked flights
 unmarked-marked width now [] = refl

@@ -1,5 +1,5 @@
 -- Which message a node takes next: one pass through the list finds the first of the highest class.
-use Rattle.std.proofs.Common.{◌≡◌, ℕ, ◌+◌, ◌<◌, ◌≤◌, ◌==◌, nat_lt, Bool, true, false, cond, not, ◌&&◌, List, [], ◌∷◌, ◌++◌, length, take, get_or, Option, None, Some, refl, sym, ap, subst, ◌∙◌, arith}
+use Rattle.std.proofs.Common.{◌≡◌, ℕ, ◌+◌, ◌<◌, ◌≤◌, ◌==◌, nat_lt, Bool, true, false, cond, not, ◌&&◌, List, [], ◌∷◌, ◌++◌, length, take, slice_get, get_or, Option, None, Some, refl, sym, ap, subst, ◌∙◌, arith}
 use Rattle.std.specs.List.{position, position_or_len}
 use Rattle.std.specs.Option.{option_map, option_or}
 use Rattle.std.proofs.lemmas.Bool.{and_parts, eqb-true}
@@ -11,6 +11,7 @@ use Rattle.std.proofs.lemmas.List.Sums.{prefix_len-le-length}
 use Rattle.memory_contracts.specs.Bags.{marked}
 use Rattle.memory_contracts.specs.Carrier.{Flight, class_of, has_class, next_for, rank, same_class, waits_at}
 use Rattle.memory_contracts.specs.Packets.{IsNext, arrived_at, better, flight_of, flights_of, outranks}
+use Rattle.memory_contracts.proofs.Carriers.{slice_get-get_or}
 use Rattle.memory_contracts.specs.declared.message.Class.{Class}
 use Rattle.memory_contracts.specs.declared.message.Class.TheVariants.{Ask, Order, Give, Reply}
 use Rattle.memory_contracts.specs.declared.packet.Arrived.{Arrived}
@@ -154,12 +155,13 @@ some_class at k e = by (at Reply) (at Give) (at Order) refl refl refl e
     by None None (Some x) a b c e = (Order, c ∙ e)
     by None None None a b c e = (Ask, e)
 
--- the message that is next stands in the list, has arrived, and is for this node
-pub next_for-is : (p : ℕ) (flights : List Flight) (k : ℕ) (d : Flight) → next_for p flights ≡ Some k → (k < length flights) × ((get_or flights k d).arrived ≡ true) × ((get_or flights k d).to ≡ p)
-next_for-is p flights k d e =
+-- the message that is next has arrived, and is for this node
+pub next_for-is : (p : ℕ) (flights : List Flight) (k : ℕ) (f : Flight) → next_for p flights ≡ Some k → slice_get flights k ≡ Some f → (f.arrived ≡ true) × (f.to ≡ p)
+next_for-is p flights k f e at =
     let (c, found) = some_class (λ c. position (waits_at p c) flights) k e in
-    let (within, waits, _) = position-Some (waits_at p c) flights k d found in
-    let f = get_or flights k d in
-    let here = (and_parts (f.arrived && (f.to == p)) (has_class c f) waits).0 in
+    let (within, waits, _) = position-Some (waits_at p c) flights k f found in
+    let there = slice_get-get_or flights k f within in
+    let same : get_or flights k f ≡ f = cc in
+    let here = (and_parts (f.arrived && (f.to == p)) (has_class c f) (ap (waits_at p c) (sym same) ∙ waits)).0 in
     let (arrived, to) = and_parts f.arrived (f.to == p) here in
-    (within, arrived, eqb-true f.to p to)
+    (arrived, eqb-true f.to p to)

@@ -9,5 +9,8 @@ pub mod Starting
 pub mod Readable
 pub mod Shapes
 pub mod Carriers
+pub mod InRooms
+pub mod Sending
 pub mod Choices
+pub mod Taking
 pub mod Protocol

@@ -20,6 +20,7 @@ pub struct Mesh {
     line_flits: u32,
     ghost columns: { 0 < width },
     ghost few: { nodes ≤ 16 },
+    ghost flits: { 0 < flit_bytes },
     ghost bare: { bare_flits ≡ packet_flits flit_bytes 0 },
     ghost line: { line_flits ≡ packet_flits flit_bytes line_bytes },
 }

@@ -1,21 +1,42 @@
-use Rattle.std.proofs.Common.{rules, ◌≡◌, ◌+◌, ◌<◌, IfOk, ℕ, ◌-◌, ◌*◌, ◌≤◌, length, ◌/◌, ◌%◌, Bool, true, false, nat_eq, nat_lt, List, [], ◌∷◌, ◌++◌, slice_index_or, slice_set, bit_and, bit_or, Fits, w8, w32, w64, Bor, MutBor}
+use Rattle.std.proofs.Common.{◌≡◌, ℕ, ◌+◌, ◌<◌, nat_le, false, List, ◌∷◌, ◌++◌, [], length, refl, sym, ap, subst, ◌∙◌, arith}
+use Rattle.std.proofs.lemmas.Bool.Decides.{nat_tests}
+use Rattle.std.proofs.lemmas.List.{length-map, map_push}
 use Rattle.std.specs.Vec.{vec_capacity}
-use Rattle.machine_config.specs.Allowed.{IsAllowed}
-use Rattle.memory_contracts.specs.Bags.{no_flights, ticked}
-use Rattle.memory_contracts.specs.Packets.{AreInRooms, flights_of}
+use Rattle.memory_contracts.specs.Bags.{marked}
 use Rattle.memory_contracts.specs.BagCarriers.{bag_of}
-use Rattle.memory_contracts.specs.Carrier.{CarrierTicks}
-use Rattle.memory_contracts.specs.Carrying.{IsCarrying-kept}
+use Rattle.memory_contracts.specs.Carrier.{Flight, class_of, is_full, sent_by}
+use Rattle.memory_contracts.specs.Packets.{AreInRooms, flight_of, flights_of}
+use Rattle.memory_contracts.specs.Rooms.{count_in}
+use Rattle.memory_contracts.specs.declared.packet.Packet.{Packet}
+use Rattle.memory_contracts.proofs.InRooms.{in_rooms-sent, place-sent}
+use Rattle.memory_contracts.proofs.Sending.{marked-sent, sent-after}
 use Rattle.memory_contracts.proofs.bag.BagCarrierCarrier.send.Goals as goal
 
--- src/bag.rt:72:9
 pub push_reserved-requires : goal.push_reserved-requires
-push_reserved-requires c = ?
+push_reserved-requires c =
+    let s = c.args.self.now in
+    let packet : Packet = record { source = c.args.p; to = c.args.to; length = c.flits.result; start = s.ticks; message = c.args.m } in
+    let f = marked s.mesh.width s.ticks (flight_of packet) in
+    let more = in_rooms-sent (bag_of s).flights s.mesh.nodes s.rooms c.set.new.self (vec_capacity s.packets) (vec_capacity s.packets) f c.class-class.result c.count-count.result s.kept c.requires.source c.requires.destination c.class-class.ensures c.count-count.ensures c.if-count-ge-ROOM.false c.set.ensures refl in
+    let place = place-sent (bag_of s).flights s.mesh.nodes c.set.new.self (vec_capacity s.packets) f more in
+    let same = length-map s.packets.items (λ s'. marked s.mesh.width s.ticks (flight_of s')) in
+    grind (arith, place, same)
 
--- src/bag.rt:72:9
 pub invariant_of-self-2 : goal.invariant_of-self-2
-invariant_of-self-2 c = ?
+invariant_of-self-2 c =
+    let s = c.args.self.now in
+    let packet : Packet = record { source = c.args.p; to = c.args.to; length = c.flits.result; start = s.ticks; message = c.args.m } in
+    let mark : Packet → Flight = λ s'. marked s.mesh.width s.ticks (flight_of s') in
+    let more = in_rooms-sent (bag_of s).flights s.mesh.nodes s.rooms c.set.new.self (vec_capacity s.packets) (vec_capacity c.push_reserved.new.self) (mark packet) c.class-class.result c.count-count.result s.kept c.requires.source c.requires.destination c.class-class.ensures c.count-count.ensures c.if-count-ge-ROOM.false c.set.ensures c.push_reserved.ensures.capacity in
+    let flights = ap (flights_of s.mesh.width s.ticks) c.push_reserved.ensures.items ∙ map_push mark s.packets.items packet in
+    let P : List Flight → Type 0 = λ flights. AreInRooms flights s.mesh.nodes c.set.new.self (vec_capacity c.push_reserved.new.self) in
+    record { kept = subst P (sym flights) more }
 
--- src/bag.rt:65:5
 pub returns-clause-after : goal.returns-clause-after
-returns-clause-after c = ?
+returns-clause-after c =
+    let s = c.args.self.now in
+    let packet : Packet = record { source = c.args.p; to = c.args.to; length = c.flits.result; start = s.ticks; message = c.args.m } in
+    let count : c.count-count.result ≡ length (sent_by c.args.p.0 (class_of c.args.m.kind) (bag_of s).flights) =
+    c.count-count.ensures ∙ ap (count_in s.rooms c.args.p.0) c.class-class.ensures ∙ s.kept.counts c.args.p.0 (class_of c.args.m.kind) in
+    let room : is_full (bag_of s) c.args.p.0 (class_of c.args.m.kind) ≡ false = grind (arith, nat_tests, count, c.if-count-ge-ROOM.false) in
+    sent-after s.mesh s.ticks s.packets.items c.push_reserved.new.self.items packet room c.push_reserved.ensures.items (marked-sent s.mesh s.ticks s.packets.items packet s.mesh.flits c.flits.ensures refl)
