@@ -113,19 +113,17 @@ IsNext-push p flights f best next = by (f.arrived && (f.to == p)) refl best next
     by true here (Some best) next = ranked best here next (outranks k best.class) refl
 
 -- one more packet of a list
-pub IsNext-more : (width now p : ℕ) (packets : List Packet) (i : ℕ) (s : Packet) (best next new : Option Arrived) → i < length packets → s ≡ get_or packets i s →
-    next ≡ arrived_at p i (marked width now (flight_of s)) → new ≡ better best next → IsNext p (flights_of width now (take i packets)) best → IsNext p (flights_of width now (take (i + 1) packets)) new
-IsNext-more width now p packets i s best next new below read seen chosen before =
+pub IsNext-more : (width now p : ℕ) (packets : List Packet) (i : ℕ) (d : Packet) (best next new : Option Arrived) → i < length packets →
+    next ≡ arrived_at p i (marked width now (flight_of (get_or packets i d))) → new ≡ better best next → IsNext p (flights_of width now (take i packets)) best → IsNext p (flights_of width now (take (i + 1) packets)) new
+IsNext-more width now p packets i d best next new below seen chosen before =
     let mark : Packet → Flight = λ s. marked width now (flight_of s) in
-    let f = mark s in
+    let f = mark (get_or packets i d) in
     let count : length (flights_of width now (take i packets)) ≡ i = omega (arith, length-map (take i packets) mark, length-take i packets) in
-    let more : flights_of width now (take i packets) ++ f ∷ [] ≡ flights_of width now (take (i + 1) packets) =
-    ap (λ (s : Packet). flights_of width now (take i packets) ++ mark s ∷ []) read ∙ sym (map_more mark packets i s below) in
     let is : better best (arrived_at p (length (flights_of width now (take i packets))) f) ≡ new =
     ap (λ n. better best (arrived_at p n f)) count ∙ ap (better best) (sym seen) ∙ sym chosen in
     let P : List Flight → Type 0 = λ fs. IsNext p fs (better best (arrived_at p (length (flights_of width now (take i packets))) f)) in
     let Q : Option Arrived → Type 0 = λ new. IsNext p (flights_of width now (take (i + 1) packets)) new in
-    subst Q is (subst P more (IsNext-push p (flights_of width now (take i packets)) f best before))
+    subst Q is (subst P (sym (map_more mark packets i d below)) (IsNext-push p (flights_of width now (take i packets)) f best before))
 
 -- ---- what the pass finds
 

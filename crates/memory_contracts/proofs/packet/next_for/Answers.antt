@@ -7,7 +7,8 @@ use Rattle.memory_contracts.proofs.Choices.{IsNext-more, next_for-IsNext}
 use Rattle.memory_contracts.proofs.packet.next_for.Goals as goal
 
 pub loop-place-preserved : goal.loop-place-preserved
-loop-place-preserved c = let h = c.arrived_at.ensures in ?
+loop-place-preserved c =
+    IsNext-more c.args.mesh.now.width c.args.now c.args.p.0 c.args.packets.now c.loop-place.place _ c.loop-place.best _ _ c.loop-place-test.true c.arrived_at.ensures c.better-best.ensures c.loop-place.invariant
 
 pub returns-clause-next : goal.returns-clause-next
 returns-clause-next c =
