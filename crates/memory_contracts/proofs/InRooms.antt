@@ -51,16 +51,19 @@ its_own f =
 -- ---- a message is sent
 
 -- the counts with that of f one higher
-counts-sent : (flights : List Flight) (taken new : Rooms) (f : Flight) (k : Class) (n : ℕ) → ((q : ℕ) (d : Class) → count_in taken q d ≡ length (sent_by q d flights)) →
-    k ≡ class_of f.message.kind → n ≡ count_in taken f.source k → count_in new ≡ with_count (count_in taken) f.source k (n + 1) → (q : ℕ) (d : Class) → count_in new q d ≡ length (sent_by q d (flights ++ f ∷ []))
-counts-sent flights taken new f k n counts class count is q d =
+counts-sent : (flights : List Flight) (taken new : Rooms) (f : Flight) (k : Class) → ((q : ℕ) (d : Class) → count_in taken q d ≡ length (sent_by q d flights)) →
+    k ≡ class_of f.message.kind → count_in new ≡ with_count (count_in taken) f.source k (count_in taken f.source k + 1) → (q : ℕ) (d : Class) → count_in new q d ≡ length (sent_by q d (flights ++ f ∷ []))
+counts-sent flights taken new f k counts class is q d =
     ap (λ (h : ℕ → Class → ℕ). h q d) is
     ∙ ap (λ k. cond ((f.source == q) && same_class k d) (n + 1) (count_in taken q d)) class
     ∙ by ((f.source == q) && has_class d f) refl
     ∙ sym (filter-push (λ f. (f.source == q) && has_class d f) flights f)
   where
+    n : ℕ
+    n = count_in taken f.source k
+
     here : n ≡ length (sent_by f.source (class_of f.message.kind) flights)
-    here = count ∙ ap (count_in taken f.source) class ∙ counts f.source (class_of f.message.kind)
+    here = ap (count_in taken f.source) class ∙ counts f.source (class_of f.message.kind)
 
     by : (b : Bool) → ((f.source == q) && has_class d f) ≡ b → cond b (n + 1) (count_in taken q d) ≡ length (sent_by q d flights) + cond b 1 0
     by true e = let there = at_its_own (λ q d. n ≡ length (sent_by q d flights)) f q d e here in omega (arith, there)
@@ -73,11 +76,11 @@ rooms-sent flights f rooms room q d = by ((f.source == q) && has_class d f) refl
     by true e more = let there = at_its_own (λ q d. length (sent_by q d flights) < 8) f q d e room in omega (arith, more, there)
     by false e more = omega (arith, more, rooms q d)
 
-pub in_rooms-sent : (flights : List Flight) (nodes : ℕ) (taken new : Rooms) (capacity more : ℕ) (f : Flight) (k : Class) (n : ℕ) → AreInRooms flights nodes taken capacity → f.source < nodes → f.to < nodes →
-    k ≡ class_of f.message.kind → n ≡ count_in taken f.source k → n < 8 → count_in new ≡ with_count (count_in taken) f.source k (n + 1) → more ≡ capacity → AreInRooms (flights ++ f ∷ []) nodes new more
-in_rooms-sent flights nodes taken new capacity more f k n kept source to class count room is same =
+pub in_rooms-sent : (flights : List Flight) (nodes : ℕ) (taken new : Rooms) (capacity more : ℕ) (f : Flight) (k : Class) → AreInRooms flights nodes taken capacity → f.source < nodes → f.to < nodes →
+    k ≡ class_of f.message.kind → count_in taken f.source k < 8 → count_in new ≡ with_count (count_in taken) f.source k (count_in taken f.source k + 1) → more ≡ capacity → AreInRooms (flights ++ f ∷ []) nodes new more
+in_rooms-sent flights nodes taken new capacity more f k kept source to class room is same =
     let memory = kept.memory in
-    let here : n ≡ length (sent_by f.source (class_of f.message.kind) flights) = count ∙ ap (count_in taken f.source) class ∙ kept.counts f.source (class_of f.message.kind) in
+    let here : count_in taken f.source k ≡ length (sent_by f.source (class_of f.message.kind) flights) = ap (count_in taken f.source) class ∙ kept.counts f.source (class_of f.message.kind) in
     let Source : Flight → Type 0 = λ f. f.source < nodes in
     let To : Flight → Type 0 = λ f. f.to < nodes in
     record {
@@ -85,7 +88,7 @@ in_rooms-sent flights nodes taken new capacity more f k n kept source to class c
       memory = omega (arith, memory, same);
       sources = λ i g at. ⊎_elim (λ there. kept.sources i g there) (λ new. subst Source new source) (slice_get-push flights f i g at);
       destinations = λ i g at. ⊎_elim (λ there. kept.destinations i g there) (λ new. subst To new to) (slice_get-push flights f i g at);
-      counts = counts-sent flights taken new f k n kept.counts class count is;
+      counts = counts-sent flights taken new f k kept.counts class is;
       rooms = rooms-sent flights f kept.rooms (omega (arith, room, here));
     }
 
@@ -98,35 +101,44 @@ place-sent flights nodes taken capacity f kept =
 
 -- ---- a message is taken
 
-counts-taken : (flights : List Flight) (taken new : Rooms) (i : ℕ) (f : Flight) (k : Class) (n : ℕ) → ((q : ℕ) (d : Class) → count_in taken q d ≡ length (sent_by q d flights)) → slice_get flights i ≡ Some f →
-    k ≡ class_of f.message.kind → n ≡ count_in taken f.source k → count_in new ≡ with_count (count_in taken) f.source k (n - 1) → (q : ℕ) (d : Class) → count_in new q d ≡ length (sent_by q d (remove flights i))
-counts-taken flights taken new i f k n counts at class count is q d =
+counts-taken : (flights : List Flight) (taken new : Rooms) (i : ℕ) (f : Flight) (k : Class) → ((q : ℕ) (d : Class) → count_in taken q d ≡ length (sent_by q d flights)) → slice_get flights i ≡ Some f →
+    k ≡ class_of f.message.kind → count_in new ≡ with_count (count_in taken) f.source k (count_in taken f.source k - 1) → (q : ℕ) (d : Class) → count_in new q d ≡ length (sent_by q d (remove flights i))
+counts-taken flights taken new i f k counts at class is q d =
     ap (λ (h : ℕ → Class → ℕ). h q d) is
     ∙ ap (λ k. cond ((f.source == q) && same_class k d) (n - 1) (count_in taken q d)) class
     ∙ by ((f.source == q) && has_class d f) refl (filter-remove (λ f. (f.source == q) && has_class d f) flights i f at)
   where
+    n : ℕ
+    n = count_in taken f.source k
+
     here : n ≡ length (sent_by f.source (class_of f.message.kind) flights)
-    here = count ∙ ap (count_in taken f.source) class ∙ counts f.source (class_of f.message.kind)
+    here = ap (count_in taken f.source) class ∙ counts f.source (class_of f.message.kind)
 
     by : (b : Bool) → ((f.source == q) && has_class d f) ≡ b → length (sent_by q d flights) ≡ length (sent_by q d (remove flights i)) + cond b 1 0 → cond b (n - 1) (count_in taken q d) ≡ length (sent_by q d (remove flights i))
     by true e less = let there = at_its_own (λ q d. n ≡ length (sent_by q d flights)) f q d e here in omega (arith, there, less)
     by false e less = omega (arith, counts q d, less)
 
-pub in_rooms-taken : (flights : List Flight) (nodes : ℕ) (taken new : Rooms) (capacity more : ℕ) (i : ℕ) (f : Flight) (k : Class) (n : ℕ) → AreInRooms flights nodes taken capacity → slice_get flights i ≡ Some f →
-    k ≡ class_of f.message.kind → n ≡ count_in taken f.source k → count_in new ≡ with_count (count_in taken) f.source k (n - 1) → more ≡ capacity → AreInRooms (remove flights i) nodes new more
-in_rooms-taken flights nodes taken new capacity more i f k n kept at class count is same =
+pub in_rooms-taken : (flights : List Flight) (nodes : ℕ) (taken new : Rooms) (capacity more : ℕ) (i : ℕ) (f : Flight) (k : Class) → AreInRooms flights nodes taken capacity → slice_get flights i ≡ Some f →
+    k ≡ class_of f.message.kind → count_in new ≡ with_count (count_in taken) f.source k (count_in taken f.source k - 1) → more ≡ capacity → AreInRooms (remove flights i) nodes new more
+in_rooms-taken flights nodes taken new capacity more i f k kept at class is same =
     let memory = kept.memory in
     record {
       few = kept.few;
       memory = omega (arith, memory, same);
       sources = λ j g there. let (l, was) = slice_get-remove flights i j g there in kept.sources l g was;
       destinations = λ j g there. let (l, was) = slice_get-remove flights i j g there in kept.destinations l g was;
-      counts = counts-taken flights taken new i f k n kept.counts at class count is;
+      counts = counts-taken flights taken new i f k kept.counts at class is;
       rooms = λ q d. let less = filter-remove (λ f. (f.source == q) && has_class d f) flights i f at in let most = kept.rooms q d in omega (arith, less, most);
     }
 
--- what stands in the list is counted
-pub counted-there : (flights : List Flight) (nodes : ℕ) (taken : Rooms) (capacity : ℕ) (i : ℕ) (f : Flight) (k : Class) → AreInRooms flights nodes taken capacity → slice_get flights i ≡ Some f → k ≡ class_of f.message.kind → 1 ≤ count_in taken f.source k
+-- what stands in the list comes from a node, and is counted
+pub source-there : (flights : List Flight) (nodes : ℕ) (taken : Rooms) (capacity : ℕ) (i : ℕ) (f : Flight) → AreInRooms flights nodes taken capacity → slice_get flights i ≡ Some f → f.source < 16
+source-there flights nodes taken capacity i f kept at =
+    let source = kept.sources i f at in
+    let few = kept.few in
+    omega (arith, source, few)
+
+pub counted-there : (flights : List Flight) (nodes : ℕ) (taken : Rooms) (capacity : ℕ) (i : ℕ) (f : Flight) (k : Class) → AreInRooms flights nodes taken capacity → slice_get flights i ≡ Some f → k ≡ class_of f.message.kind → 0 < count_in taken f.source k
 counted-there flights nodes taken capacity i f k kept at class =
     let c = class_of f.message.kind in
     let count : count_in taken f.source k ≡ length (sent_by f.source c flights) = ap (count_in taken f.source) class ∙ kept.counts f.source c in

@@ -9,16 +9,13 @@ use crate::carrier::Carrier;
 use crate::mesh::Mesh;
 use crate::message::Message;
 use crate::packet::{Packet, next_for};
-use crate::rooms::Rooms;
+use crate::rooms::{ROOM, Rooms};
 use machine_config::Config;
 use rsim_base::{NoMemory, Node};
 use std::alloc::Global;
 
-/// How many messages of each class a node may have under way.
-const ROOM: u8 = 8;
-
-/// How many messages a node may have under way: those of four classes.
-const ROOMS: usize = 4 * ROOM as usize;
+/// The messages that a node may have under way, of all four classes.
+const MOST_OF_NODE: usize = 4 * ROOM as usize;
 
 /// A carrier that keeps the messages in a list, and in which each arrives as early as it may have crossed the mesh.
 #[derive(Drop)]
@@ -43,7 +40,7 @@ impl BagCarrier {
         ensures { IfOk result (λ made. bag_of made ≡ no_flights config.now) }
     {
         let mesh = Mesh::make(config);
-        let Ok(packets) = Vec::with_capacity(alloc, mesh.nodes as usize * ROOMS) else {
+        let Ok(packets) = Vec::with_capacity(alloc, mesh.nodes as usize * MOST_OF_NODE) else {
             return Err(NoMemory);
         };
         Ok(BagCarrier {
@@ -64,11 +61,10 @@ impl Carrier for BagCarrier {
 
     fn send(&mut self, p: Node, to: Node, m: Message) -> bool {
         let class = m.kind.class();
-        let count = self.rooms.count(p, class);
-        if count >= ROOM {
+        if self.rooms.is_full(p, class) {
             return false;
         }
-        self.rooms.set(p, class, count + 1);
+        self.rooms.enter(p, class);
         self.packets.push_reserved(Packet {
             source: p,
             to,
@@ -82,9 +78,7 @@ impl Carrier for BagCarrier {
     fn take(&mut self, p: Node) -> Option<Message> {
         let place = next_for(self.packets.as_slice(), &self.mesh, p, self.ticks)?;
         let packet = self.packets.remove(place);
-        let class = packet.class();
-        let count = self.rooms.count(packet.source, class);
-        self.rooms.set(packet.source, class, count - 1);
+        self.rooms.leave(packet.source, packet.class());
         Some(packet.message)
     }
 

@@ -2,6 +2,8 @@
 #![tactic(auto)]
 
 mod bag;
+#[cfg(test)]
+mod bag_tests;
 mod carrier;
 mod exchange;
 mod flat;

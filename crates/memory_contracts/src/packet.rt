@@ -25,7 +25,9 @@ impl Packet {
     fn earliest(&self, mesh: &Mesh) -> u64
         ensures { result ≡ earliest mesh.now.width (flight_of self.now) }
     {
-        u64::from(self.start) + u64::from(mesh.distance(self.source, self.to)) + u64::from(self.length)
+        u64::from(self.start)
+            + u64::from(mesh.distance(self.source, self.to))
+            + u64::from(self.length)
     }
 
     /// The class of its message.

@@ -1,5 +1,5 @@
-// How many messages are under way from each node.
-ghost use Rattle.std.specs.Prelude.{◌≡◌, ℕ, ◌+◌, ◌-◌, ◌<◌};
+// The rooms that each node has for its messages.
+ghost use Rattle.std.specs.Prelude.{◌≡◌, ℕ, ◌+◌, ◌-◌, ◌<◌, nat_le};
 ghost use Rattle.memory_contracts.specs.Rooms.{counted_of, with_counted};
 
 use crate::exchange::MOST_NODES;
@@ -39,7 +39,10 @@ impl Counts {
     }
 }
 
-/// How many messages of each class are under way, by the node that has sent them.
+/// How many messages of a class a node may have under way.
+pub const ROOM: u8 = 8;
+
+/// The rooms of each node, one for each class: how many messages are under way that the node has sent.
 #[derive(Clone, Copy)]
 pub struct Rooms {
     counts: [Counts; MOST_NODES],
@@ -57,19 +60,31 @@ impl Rooms {
         }
     }
 
-    /// How many messages of a class are under way from node `p`.
-    pub fn count(&self, p: Node, class: Class) -> u8
+    /// Whether the room of node `p` for a class is full.
+    pub fn is_full(&self, p: Node, class: Class) -> bool
         requires { p.0 < 16 }
-        ensures { result ≡ count_in self.now p.0 class }
+        ensures { result ≡ nat_le 8 (count_in self.now p.0 class) }
     {
-        self.counts[p.0 as usize].of(class)
+        self.counts[p.0 as usize].of(class) >= ROOM
     }
 
-    /// Makes it so many.
-    pub fn set(&mut self, p: Node, class: Class, count: u8)
-        requires { p.0 < 16 }
-        ensures { count_in self.new ≡ with_count (count_in self.old) p.0 class count }
+    /// A message of node `p` enters its room.
+    pub fn enter(&mut self, p: Node, class: Class)
+        requires node { p.0 < 16 }
+        requires room { count_in self.old p.0 class < 8 }
+        ensures { count_in self.new ≡ with_count (count_in self.old) p.0 class (count_in self.old p.0 class + 1) }
     {
-        self.counts[p.0 as usize].set(class, count);
+        let counts = &mut self.counts[p.0 as usize];
+        counts.set(class, counts.of(class) + 1);
+    }
+
+    /// A message of node `p` leaves its room.
+    pub fn leave(&mut self, p: Node, class: Class)
+        requires node { p.0 < 16 }
+        requires some { 0 < count_in self.old p.0 class }
+        ensures { count_in self.new ≡ with_count (count_in self.old) p.0 class (count_in self.old p.0 class - 1) }
+    {
+        let counts = &mut self.counts[p.0 as usize];
+        counts.set(class, counts.of(class) - 1);
     }
 }
