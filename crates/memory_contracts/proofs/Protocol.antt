@@ -10,3 +10,4 @@ pub mod Rows
 pub mod Alike
 pub mod Awaited
 pub mod Example
+pub mod Walking
