@@ -11,3 +11,4 @@ pub mod Alike
 pub mod Awaited
 pub mod Example
 pub mod Walking
+pub mod Walked
