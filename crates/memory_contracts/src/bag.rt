@@ -82,7 +82,7 @@ impl Carrier for BagCarrier {
         Some(packet.message)
     }
 
-    // The messages that arrive are told by the tick that it is.
+    // No mark is kept: whether a message has arrived follows from the tick.
     fn tick(&mut self)
         requires few { (bag_of self.old).ticks < 4294967295 }
         ensures ticks { CarrierTicks (bag_of self.old) (bag_of self.new) }
