@@ -8,4 +8,9 @@ pub mod Sizes
 pub mod Starting
 pub mod Readable
 pub mod Shapes
+pub mod Carriers
+pub mod InRooms
+pub mod Sending
+pub mod Choices
+pub mod Taking
 pub mod Protocol

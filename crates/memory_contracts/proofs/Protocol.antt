@@ -10,3 +10,5 @@ pub mod Rows
 pub mod Alike
 pub mod Awaited
 pub mod Example
+pub mod Walking
+pub mod Walked

@@ -21,20 +21,27 @@ doublewords-power x low high power =
     absurd cc)
     (cases_Bool (x % 8 == 0))
 
--- a line is a number of doublewords, and nodes are few
+-- a line is a number of doublewords, nodes are few, the mesh has a column, and flits are small
 pub record AreSizes (config : Config) : Type 0 where
   pub low : 16 ≤ config.line
+  pub high : config.line ≤ 128
   pub doublewords : config.line % 8 ≡ 0
   pub nodes : config.processors ≤ 16
+  pub width : 1 ≤ config.mesh_width
+  pub flits : (4 ≤ config.flit_bytes) × (config.flit_bytes ≤ 16)
 
 pub sizes_of : (config : Config) → IsAllowed config → AreSizes config
 unfolding keys
 sizes_of config allowed =
-    let (processors, (_, (_, (_, (_, (_, (line, _))))))) = allowed.rows in
+    let (processors, (width, (_, (_, (_, (_, (line, after_line))))))) = allowed.rows in
+    let (_, (_, (_, (_, (_, (_, (_, (_, (_, (_, (_, (_, (_, (_, (_, (_, (_, (_, (_, (_, (_, (_, (_, (_, (flits, _))))))))))))))))))))))))) = after_line in
     record {
       low = line.0;
+      high = line.1;
       doublewords = doublewords-power config.line line.0 line.1 line.2;
       nodes = processors.1;
+      width = width.0;
+      flits = (flits.0, flits.1);
     }
 
 -- the line of a byte is that of its doubleword

@@ -1,9 +1,15 @@
+pub mod BagCarriers
+pub mod Bags
+pub mod Carrier
+pub mod Carrying
 pub mod First
 pub mod Flat
 pub mod FlatStores
 pub mod Kept
+pub mod Packets
 pub mod Parts
 pub mod Protocol
+pub mod Rooms
 pub mod Sound
 pub mod Start
 pub mod Store

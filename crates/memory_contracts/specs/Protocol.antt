@@ -9,4 +9,5 @@ pub mod Coherent
 pub mod Content
 pub mod Alike
 pub mod Awaited
+pub mod Walks
 pub mod Laws

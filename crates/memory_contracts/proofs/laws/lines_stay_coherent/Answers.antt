@@ -3,6 +3,7 @@ use Rattle.memory_contracts.proofs.Protocol.Alike.{order_free}
 use Rattle.memory_contracts.proofs.Protocol.Awaited.{leaving_awaits, register_awaits}
 use Rattle.memory_contracts.proofs.Protocol.Known.{current_is, content_stands, shared_is, owned_is, owned_alone, owned_noted, one_from_home, grants_awaited}
 use Rattle.memory_contracts.proofs.Protocol.Runs.{event_keeps, lines_stay}
+use Rattle.memory_contracts.proofs.Protocol.Walked.{walks-mesi, walks-msi}
 use Rattle.memory_contracts.proofs.laws.lines_stay_coherent.Goals as goal
 
 pub returns-clause-lists : goal.returns-clause-lists
@@ -43,3 +44,9 @@ returns-clause-register c = register_awaits
 
 pub returns-clause-leaving : goal.returns-clause-leaving
 returns-clause-leaving c = leaving_awaits
+
+pub returns-clause-walk_msi : goal.returns-clause-walk_msi
+returns-clause-walk_msi c = walks-msi
+
+pub returns-clause-walk_mesi : goal.returns-clause-walk_mesi
+returns-clause-walk_mesi c = walks-mesi
