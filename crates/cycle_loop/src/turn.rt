@@ -95,7 +95,7 @@ impl Processor {
         self.retire(p, act, log);
     }
 
-    // One step that may store. It is made on a copy of the state, which is dropped where the line is not owned.
+    // One step that may store. Where the line is not owned the state is put back as it was.
     fn try_step<M: CoherentStore>(
         &mut self,
         p: Node,
@@ -123,12 +123,12 @@ impl Processor {
         ensures spare { log.old.spare ≤ log.new.spare + 1 }
         ensures numbers { HaveNumbers log.old.places → HaveNumbers log.new.places }
     {
-        let mut next = self.arch;
-        let act = step_at(&mut next, i, image, value);
+        let before = self.arch;
+        let act = step_at(&mut self.arch, i, image, value);
         if lacks_stored(p, act, line_bytes, store) {
+            self.arch = before;
             return;
         }
-        self.arch = next;
         perform(p, act, store);
         self.retire(p, act, log);
     }

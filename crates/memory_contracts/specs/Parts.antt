@@ -1,9 +1,10 @@
 -- The parts of a flat store: the doublewords of memory, the node that has each line, and the wishes of each node.
-use Rattle.std.specs.Prelude.{◌≡◌, ℕ, ◌≤◌, ◌<◌, ◌^◌, ◌/◌, ◌%◌, ◌==◌, ◌&&◌, nat_eq, Bool, true, List, [], map, length, slice_index_or, Option, None, is_some, unwrap_or, if◌then◌else◌}
+use Rattle.std.specs.Prelude.{◌≡◌, ℕ, ◌+◌, ◌-◌, ◌≤◌, ◌<◌, ◌^◌, ◌/◌, ◌%◌, ◌==◌, ◌&&◌, nat_eq, nat_le, nat_lt, Bool, true, List, [], map, length, slice_index_or, Option, None, is_some, unwrap_or, if◌then◌else◌}
 use Rattle.std.specs.HashMap.{get}
 use Rattle.std.specs.List.{All}
 use Rattle.arrayvec.specs.ArrayVec.{ArrayVec}
-use Rattle.rsim_base.specs.Bytes.{byte_of}
+use Rattle.rsim_base.specs.Bytes.{byte_of, count_of}
+use Rattle.rsim_base.specs.declared.memory.Size.{Size}
 use Rattle.rsim_base.specs.declared.memory.Line.{Line}
 use Rattle.rsim_base.specs.declared.memory.Node.{Node}
 use Rattle.elf64_load.specs.Image.{ImageView, byte_at}
@@ -34,6 +35,11 @@ byte_of_all doublewords a = byte_of (doublewords (a / 8)) 8 (a % 8)
 
 abbrev pub byte_in : Memory → ℕ → ℕ
 byte_in memory = byte_of_all (doubleword_in memory)
+
+-- a doubleword with the n bytes of a value from place `at` on
+abbrev pub IsPutInto : ℕ → ℕ → Size → ℕ → ℕ → Type 0
+IsPutInto old at n value new =
+    (j : ℕ) → j < 8 → byte_of new 8 j ≡ (if nat_le at j && nat_lt j (at + count_of n) then byte_of value (count_of n) (j - at) else byte_of old 8 j)
 
 -- ---- who has each line
 

@@ -1,5 +1,5 @@
 // The bytes of memory.
-ghost use Rattle.std.specs.Prelude.{◌≡◌, ℕ, ◌+◌, ◌<◌, ◌%◌, ◌/◌, [], true, OnOk};
+ghost use Rattle.std.specs.Prelude.{◌≡◌, ℕ, ◌+◌, ◌<◌, ◌≤◌, ◌%◌, ◌/◌, [], true, OnOk};
 ghost use Rattle.rsim_base.specs.Bytes.{byte_of, count_of};
 ghost use Rattle.elf64_load.specs.Image.{byte_at};
 ghost use Rattle.memory_contracts.specs.First.{AreFirst};
@@ -18,7 +18,7 @@ pub struct Memory {
 }
 
 impl Memory {
-    ghost use Rattle.memory_contracts.specs.Parts.{byte_in, doubleword_in, has_doubleword, with_at};
+    ghost use Rattle.memory_contracts.specs.Parts.{byte_in, doubleword_in, has_doubleword, with_at, IsPutInto};
 
     /// Memory in which nothing is kept.
     pub fn new(alloc: Global) -> Memory
@@ -58,8 +58,7 @@ impl Memory {
         ensures bytes { byte_in self.new ≡ stored (byte_in self.old) a (count_of n) value }
         ensures kept { has_doubleword self.new ≡ has_doubleword self.old }
     {
-        let doubleword = with_part(self.doubleword(a / 8), a % 8, n, value);
-        self.set(a / 8, doubleword);
+        self.put(a / 8, a % 8, n, value);
     }
 
     fn doubleword(&self, number: u64) -> u64
@@ -68,14 +67,15 @@ impl Memory {
         self.doublewords.get(&number).copied().unwrap_or(0)
     }
 
-    // Sets a doubleword that is kept.
-    fn set(&mut self, number: u64, value: u64)
-        requires { has_doubleword self.old number ≡ true }
-        ensures value { doubleword_in self.new ≡ with_at (doubleword_in self.old) number value }
+    // Puts the low `n` bytes of a value into a doubleword that is kept, from its place `at` on.
+    fn put(&mut self, number: u64, at: u64, n: Size, value: u64)
+        requires there { has_doubleword self.old number ≡ true }
+        requires room { at + count_of n ≤ 8 }
+        ensures value { (w : ℕ) × IsPutInto (doubleword_in self.old number) at n value w × (doubleword_in self.new ≡ with_at (doubleword_in self.old) number w) }
         ensures kept { has_doubleword self.new ≡ has_doubleword self.old }
     {
         if let Some(doubleword) = self.doublewords.get_mut(&number) {
-            *doubleword = value;
+            *doubleword = with_part(*doubleword, at, n, value);
         }
     }
 }
