@@ -4,7 +4,7 @@ use Rattle.std.specs.Prelude.{ℕ, Bool, true, false, List, [], ◌∷◌, ◌++
 use Rattle.machine_config.specs.declared.config.Protocol.{Protocol}
 use Rattle.machine_config.specs.declared.config.Protocol.TheVariants.{Msi, Mesi}
 use Rattle.memory_contracts.specs.Protocol.Messages.{Message, GetS, GetM, Put, Inv, Recall, Grant, PutAck, InvAck, RecallAck, Done}
-use Rattle.memory_contracts.specs.Protocol.Lines.{Phase, Idle, Collecting, Recalling, Granting, HomeRecord, Copy, Absent, Shared, Owned, Evicting, Emptied, stance, Cell, cell, LineState, nobody, joined, besides}
+use Rattle.memory_contracts.specs.Protocol.Lines.{Phase, Idle, Collecting, Recalling, Granting, HomeRecord, Copy, Absent, Shared, Owned, Evicting, Emptied, stance, Cell, cell, nobody, joined, besides}
 use Rattle.memory_contracts.specs.Protocol.Events.{Event, HomeTakes, NodeTakes, Starts, Evicts, Reads, Writes, Moment, Leads}
 
 -- what the home has noted, and nodes 0, 1 and 2
