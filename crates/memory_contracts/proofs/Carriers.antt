@@ -1,10 +1,10 @@
 -- Lists of messages under way: one is sent, one is taken, a tick passes.
-use Rattle.std.proofs.Common.{◌≡◌, ◌⊎◌, inl, inr, ℕ, zero, suc, ◌+◌, ◌*◌, ◌<◌, ◌≤◌, ◌==◌, nat_lt, nat_le, Bool, true, false, cond, ◌&&◌, List, [], ◌∷◌, ◌++◌, length, map, slice_get, get_or, Option, None, Some, refl, sym, ap, subst, ◌∙◌, arith}
+use Rattle.std.proofs.Common.{◌≡◌, ◌⊎◌, inl, inr, ℕ, zero, suc, ◌+◌, ◌*◌, ◌<◌, ◌≤◌, ◌==◌, nat_lt, Bool, true, false, cond, ◌&&◌, List, [], ◌∷◌, ◌++◌, length, map, slice_get, get_or, Some, refl, sym, ap, subst, ◌∙◌, arith}
 use Rattle.std.specs.List.{filter, remove}
 use Rattle.std.proofs.lemmas.Bool.Decides.{nat_tests}
 use Rattle.std.proofs.lemmas.Bool.{le-leb, lt-ltb}
 use Rattle.memory_contracts.specs.Bags.{marked, ticked}
-use Rattle.memory_contracts.specs.Carrier.{Flight, CarrierView, CarrierTicks, class_of, earliest, has_class, same_class, sent_by, unmarked}
+use Rattle.memory_contracts.specs.Carrier.{Flight, CarrierTicks, class_of, earliest, has_class, same_class, sent_by, unmarked}
 use Rattle.memory_contracts.specs.Carrying.{slice_get-map, marked-timely}
 use Rattle.memory_contracts.specs.Packets.{carrier_of, flight_of, flights_of}
 use Rattle.memory_contracts.specs.declared.mesh.Mesh.{Mesh}

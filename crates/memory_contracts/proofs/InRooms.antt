@@ -1,19 +1,16 @@
 -- A list of messages stays within the rooms that are counted: one is sent, one is taken, a tick passes.
-use Rattle.std.proofs.Common.{◌≡◌, ℕ, ◌+◌, ◌-◌, ◌*◌, ◌<◌, ◌≤◌, ◌==◌, nat_le, Bool, true, false, cond, ◌&&◌, List, [], ◌∷◌, ◌++◌, length, map, slice_get, Option, None, Some, refl, sym, ap, subst, ◌∙◌, arith, ⊎_elim}
+use Rattle.std.proofs.Common.{◌≡◌, ℕ, ◌+◌, ◌-◌, ◌<◌, ◌≤◌, ◌==◌, Bool, true, false, cond, ◌&&◌, List, [], ◌∷◌, ◌++◌, length, map, slice_get, Some, refl, sym, ap, subst, ◌∙◌, arith, ⊎_elim}
 use Rattle.std.specs.List.{remove}
 use Rattle.std.proofs.lemmas.Bool.{and_parts, eqb-true}
 use Rattle.std.proofs.lemmas.Bool.Decides.{nat_tests}
-use Rattle.std.proofs.lemmas.List.{length_push, map_push}
+use Rattle.std.proofs.lemmas.List.{length_push}
 use Rattle.memory_contracts.specs.Bags.{marked}
-use Rattle.memory_contracts.specs.Carrier.{CarrierView, Flight, after_send, class_of, has_class, is_full, rank, same_class, sends, sent_by}
+use Rattle.memory_contracts.specs.Carrier.{Flight, class_of, has_class, rank, same_class, sent_by}
 use Rattle.memory_contracts.specs.Carrying.{slice_get-map}
-use Rattle.memory_contracts.specs.Packets.{AreInRooms, carrier_of, flight_of, flights_of}
+use Rattle.memory_contracts.specs.Packets.{AreInRooms}
 use Rattle.memory_contracts.specs.Rooms.{count_in, with_count}
-use Rattle.memory_contracts.specs.declared.mesh.Mesh.{Mesh}
 use Rattle.memory_contracts.specs.declared.message.Class.{Class}
 use Rattle.memory_contracts.specs.declared.message.Class.TheVariants.{Ask, Order, Give, Reply}
-use Rattle.memory_contracts.specs.declared.message.Message.{Message}
-use Rattle.memory_contracts.specs.declared.packet.Packet.{Packet}
 use Rattle.memory_contracts.specs.declared.rooms.Rooms.{Rooms}
 use Rattle.memory_contracts.proofs.Carriers.{few_flights, filter-push, filter-remove, sent_by-marked, slice_get-push, slice_get-remove}
 

@@ -1,13 +1,11 @@
 -- A message that is sent joins the end of the list, and has not arrived in the tick of its sending.
-use Rattle.std.proofs.Common.{◌≡◌, ℕ, ◌+◌, ◌*◌, ◌/◌, ◌%◌, ◌<◌, ◌≤◌, nat_le, Bool, true, false, cond, min, List, [], ◌∷◌, ◌++◌, map, refl, sym, ap, ◌∙◌, arith}
+use Rattle.std.proofs.Common.{◌≡◌, ℕ, ◌<◌, ◌≤◌, nat_le, false, cond, List, [], ◌∷◌, ◌++◌, sym, ap, ◌∙◌, arith}
 use Rattle.std.proofs.lemmas.Bool.Decides.{nat_tests}
 use Rattle.std.proofs.lemmas.List.{map_push}
-use Rattle.std.specs.Int.{div_ceil}
 use Rattle.memory_contracts.specs.Bags.{marked}
-use Rattle.memory_contracts.specs.Carrier.{CarrierView, Flight, after_send, carries_bytes, class_of, distance, earliest, flits_of, is_full, packet_flits, sends}
+use Rattle.memory_contracts.specs.Carrier.{after_send, carries_bytes, class_of, earliest, flits_of, is_full, packet_flits, sends}
 use Rattle.memory_contracts.specs.Packets.{carrier_of, flight_of, flights_of}
 use Rattle.memory_contracts.specs.declared.mesh.Mesh.{Mesh}
-use Rattle.memory_contracts.specs.declared.message.Message.{Message}
 use Rattle.memory_contracts.specs.declared.packet.Packet.{Packet}
 
 -- a message has a flit at least

@@ -1,9 +1,9 @@
 -- A message that is taken leaves the list.
-use Rattle.std.proofs.Common.{◌≡◌, ℕ, ◌<◌, nat_le, true, List, length, slice_get, get_or, Option, Some, refl, sym, ap, ◌∙◌}
+use Rattle.std.proofs.Common.{◌≡◌, ℕ, ◌<◌, List, length, slice_get, get_or, Some, refl, sym, ap, ◌∙◌}
 use Rattle.std.specs.List.{remove}
 use Rattle.std.proofs.lemmas.Bool.{leb-true}
 use Rattle.memory_contracts.specs.Bags.{marked}
-use Rattle.memory_contracts.specs.Carrier.{CarrierView, TakesOne, earliest, next_for}
+use Rattle.memory_contracts.specs.Carrier.{TakesOne, earliest, next_for}
 use Rattle.memory_contracts.specs.Packets.{carrier_of, flight_of, flights_of}
 use Rattle.memory_contracts.specs.declared.mesh.Mesh.{Mesh}
 use Rattle.memory_contracts.specs.declared.packet.Packet.{Packet}

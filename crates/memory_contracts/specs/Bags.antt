@@ -1,5 +1,5 @@
 -- A carrier that keeps a list, and in which each message arrives as early as it may.
-use Rattle.std.specs.Prelude.{◌≡◌, ℕ, ◌+◌, nat_le, List, [], map}
+use Rattle.std.specs.Prelude.{ℕ, ◌+◌, nat_le, [], map}
 use Rattle.machine_config.specs.declared.config.Config.{Config}
 use Rattle.memory_contracts.specs.Carrier.{CarrierView, Flight, earliest}
 

@@ -1,5 +1,5 @@
 -- A list of messages that is kept within the rooms is what a carrier may mean.
-use Rattle.std.proofs.Common.{◌≡◌, ℕ, zero, suc, ◌≤◌, true, List, [], ◌∷◌, map, slice_get, Option, None, Some, refl, subst}
+use Rattle.std.proofs.Common.{◌≡◌, ℕ, zero, suc, ◌≤◌, true, List, [], ◌∷◌, map, slice_get, Some, refl, subst}
 use Rattle.std.proofs.lemmas.Bool.{leb-true}
 use Rattle.memory_contracts.specs.Bags.{marked}
 use Rattle.memory_contracts.specs.Carrier.{Flight, IsCarrying, earliest}

@@ -1,5 +1,5 @@
 -- Events do happen: from the start a node wishes to read, and the home takes its request.
-use Rattle.std.proofs.Common.{◌≡◌, ℕ, ◌<◌, Bool, true, false, cond, ◌==◌, List, [], ◌∷◌, refl, arith}
+use Rattle.std.proofs.Common.{◌≡◌, ◌<◌, Bool, true, false, cond, ◌==◌, [], ◌∷◌, refl, arith}
 use Rattle.machine_config.specs.declared.config.Protocol.TheVariants.{Mesi}
 use Rattle.memory_contracts.specs.Protocol.Messages.{GetS}
 use Rattle.memory_contracts.specs.Protocol.Lines.{Absent, stance, Cell, cell, LineState, mailed, with_mail, with_stance}

@@ -1,5 +1,5 @@
 -- The walks through every row: each step is computed.
-use Rattle.std.proofs.Common.{◌≡◌, ℕ, suc, ◌<◌, ◌==◌, Bool, true, false, cond, not, ◌&&◌, ◌||◌, List, [], ◌∷◌, ◌++◌, refl, ap, ◌∙◌, lit<}
+use Rattle.std.proofs.Common.{suc, ◌==◌, true, false, cond, not, ◌&&◌, ◌||◌, [], ◌∷◌, ◌++◌, refl, ap, ◌∙◌, lit<}
 use Rattle.machine_config.specs.declared.config.Protocol.{Protocol}
 use Rattle.machine_config.specs.declared.config.Protocol.TheVariants.{Msi, Mesi}
 use Rattle.memory_contracts.specs.Protocol.Messages.{Inv, Recall, Grant, PutAck}

@@ -1,12 +1,12 @@
 -- A walk written out scene by scene is checked by computing each step.
-use Rattle.std.proofs.Common.{◌≡◌, ℕ, zero, suc, ◌-◌, ◌<◌, ◌==◌, Bool, true, false, cond, ◌&&◌, List, [], ◌∷◌, ◌++◌, length, get_or, set, drop, refl, sym, ap, ◌∙◌, arith, lit<}
+use Rattle.std.proofs.Common.{◌≡◌, ℕ, zero, suc, ◌-◌, ◌<◌, ◌==◌, Bool, true, false, cond, ◌&&◌, List, [], ◌∷◌, ◌++◌, length, get_or, set, drop, refl, sym, ap, ◌∙◌, arith}
 use Rattle.std.proofs.lemmas.Bool.{eqb-true, eqb-false}
 use Rattle.std.proofs.lemmas.Bool.Decides.{nat_tests}
 use Rattle.std.proofs.lemmas.List.{length-set, get_or-set_same, get_or-set_other, get_or_past}
 use Rattle.machine_config.specs.declared.config.Protocol.{Protocol}
-use Rattle.memory_contracts.specs.Protocol.Messages.{Message, GetS, GetM, Put, Inv, Recall, Grant, PutAck, InvAck, RecallAck, Done}
-use Rattle.memory_contracts.specs.Protocol.Lines.{HomeRecord, Owned, Cell, cell, LineState, mailed, all_mailed, with_mail, with_cell}
-use Rattle.memory_contracts.specs.Protocol.HomeTable.{HomeStep, after_step, home_takes, to_each, to_one}
+use Rattle.memory_contracts.specs.Protocol.Messages.{Message, GetS, GetM, Put, PutAck}
+use Rattle.memory_contracts.specs.Protocol.Lines.{Owned, Cell, cell, LineState, mailed, all_mailed, with_mail, with_cell}
+use Rattle.memory_contracts.specs.Protocol.HomeTable.{HomeStep, after_step, home_takes, to_one}
 use Rattle.memory_contracts.specs.Protocol.NodeTable.{after_message, after_start, after_eviction, after_write, may_start, is_held}
 use Rattle.memory_contracts.specs.Protocol.Events.{Event, HomeTakes, NodeTakes, Starts, Evicts, Reads, Writes, Leads, Moment, is_to_home, is_to_node}
 use Rattle.memory_contracts.specs.Protocol.Walks.{Scene, Step, LeadsAlong, absent, moment_of}

@@ -1,10 +1,10 @@
--- A line of three nodes, step by step: two walks worked out by hand, one under each protocol, which together with what they
--- share go through every row of the home's table and of the nodes'. Each row is named where it is first met.
+-- A line of three nodes, step by step: two walks worked out by hand, one under each protocol. Each goes through every row of
+-- the home's table and of the nodes' that its protocol has. A comment names a row where a walk first meets it.
 use Rattle.std.specs.Prelude.{ℕ, Bool, true, false, List, [], ◌∷◌, ◌++◌, slice_index_or, Option, None, Some}
 use Rattle.machine_config.specs.declared.config.Protocol.{Protocol}
 use Rattle.machine_config.specs.declared.config.Protocol.TheVariants.{Msi, Mesi}
 use Rattle.memory_contracts.specs.Protocol.Messages.{Message, GetS, GetM, Put, Inv, Recall, Grant, PutAck, InvAck, RecallAck, Done}
-use Rattle.memory_contracts.specs.Protocol.Lines.{Phase, Idle, Collecting, Recalling, Granting, HomeRecord, Copy, Absent, Shared, Owned, Evicting, Emptied, stance, Cell, cell, LineState, nobody, joined, besides}
+use Rattle.memory_contracts.specs.Protocol.Lines.{Phase, Idle, Collecting, Recalling, Granting, HomeRecord, Copy, Absent, Shared, Owned, Evicting, Emptied, stance, Cell, cell, nobody, joined, besides}
 use Rattle.memory_contracts.specs.Protocol.Events.{Event, HomeTakes, NodeTakes, Starts, Evicts, Reads, Writes, Moment, Leads}
 
 -- what the home has noted, and nodes 0, 1 and 2
@@ -98,16 +98,24 @@ msi_readers =
 
 abbrev pub mesi_readers : List Step
 mesi_readers =
+    -- None, a wish to read starts
     step (Starts 0 false) old (noted Idle None nobody old) (asks Absent GetS) absent absent
     -- Idle, GetS: no owner, no sharers, mesi
     ∷ step (HomeTakes 0 GetS) old (noted (Granting 0) (Some 0) nobody old) (awaits Absent (Grant true old ∷ [])) absent absent
     ∷ step (Starts 1 false) old (noted (Granting 0) (Some 0) nobody old) (awaits Absent (Grant true old ∷ [])) (asks Absent GetS) absent
+    -- not Idle, GetS
     ∷ step (HomeTakes 1 GetS) old (noted (Granting 0) (Some 0) nobody old) (awaits Absent (Grant true old ∷ [])) (asks Absent GetS) absent
+    -- None, Grant owned
     ∷ step (NodeTakes 0 (Grant true old)) old (noted (Granting 0) (Some 0) nobody old) (says (Owned old) Done) (asks Absent GetS) absent
+    -- Granting, Done
     ∷ step (HomeTakes 0 Done) old (noted Idle (Some 0) nobody old) (rests (Owned old)) (asks Absent GetS) absent
+    -- Idle, GetS: an owner
     ∷ step (HomeTakes 1 GetS) old (noted (Recalling 0 1 false) (Some 0) nobody old) (says (Owned old) (Recall false)) (awaits Absent []) absent
+    -- Owned, Recall not owned
     ∷ step (NodeTakes 0 (Recall false)) old (noted (Recalling 0 1 false) (Some 0) nobody old) (says (Shared old) (RecallAck true old)) (awaits Absent []) absent
+    -- Recalling for GetS, RecallAck: kept
     ∷ step (HomeTakes 0 (RecallAck true old)) old (noted (Granting 1) None two_sharers old) (rests (Shared old)) (awaits Absent (Grant false old ∷ [])) absent
+    -- None, Grant not owned
     ∷ step (NodeTakes 1 (Grant false old)) old (noted (Granting 1) None two_sharers old) (rests (Shared old)) (says (Shared old) Done) absent
     ∷ step (HomeTakes 1 Done) old (noted Idle None two_sharers old) (rests (Shared old)) (rests (Shared old)) absent
     ∷ []

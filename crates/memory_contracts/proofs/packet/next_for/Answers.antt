@@ -1,4 +1,4 @@
-use Rattle.std.proofs.Common.{List, take, sym, ap, subst, ◌∙◌, arith}
+use Rattle.std.proofs.Common.{List, subst, arith}
 use Rattle.std.proofs.lemmas.Grind.{common_steps}
 use Rattle.std.proofs.lemmas.List.{take_all}
 use Rattle.memory_contracts.specs.Packets.{IsNext, flights_of}

@@ -1,8 +1,7 @@
-use Rattle.std.proofs.Common.{◌≡◌, ℕ, ◌+◌, List, sym, ap, subst}
+use Rattle.std.proofs.Common.{◌+◌, List, sym, subst}
 use Rattle.memory_contracts.specs.Carrier.{CarrierTicks, CarrierView, Flight}
-use Rattle.memory_contracts.specs.Bags.{ticked}
 use Rattle.memory_contracts.specs.BagCarriers.{bag_of}
-use Rattle.memory_contracts.specs.Packets.{AreInRooms, carrier_of}
+use Rattle.memory_contracts.specs.Packets.{AreInRooms}
 use Rattle.memory_contracts.proofs.Carriers.{marked-marked, ticked-is, ticks-ticked}
 use Rattle.memory_contracts.proofs.InRooms.{in_rooms-ticked}
 use Rattle.std.specs.Vec.{vec_capacity}

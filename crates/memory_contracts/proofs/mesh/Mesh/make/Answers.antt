@@ -1,4 +1,4 @@
-use Rattle.std.proofs.Common.{◌≤◌, refl, arith}
+use Rattle.std.proofs.Common.{arith}
 use Rattle.memory_contracts.proofs.Sizes.{sizes_of}
 use Rattle.memory_contracts.proofs.mesh.Mesh.make.Goals as goal
 
