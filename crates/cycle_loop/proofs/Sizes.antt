@@ -1,5 +1,5 @@
 -- The sizes that a configuration may have.
-use Rattle.std.proofs.Common.{ℕ, ◌≤◌}
+use Rattle.std.proofs.Common.{◌≤◌}
 use Rattle.machine_config.specs.Allowed.{IsAllowed}
 use Rattle.machine_config.specs.Keys.{keys}
 use Rattle.machine_config.specs.declared.config.Config.{Config}

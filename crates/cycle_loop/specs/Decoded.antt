@@ -1,5 +1,5 @@
 -- What is kept of words that were decoded.
-use Rattle.std.specs.Prelude.{◌≡◌, ℕ, List, length}
+use Rattle.std.specs.Prelude.{◌≡◌, List, length}
 use Rattle.std.specs.List.{All}
 use Rattle.sparc_decode.specs.Instr.{instr}
 use Rattle.sparc_decode.specs.Ranges.{IsInRange}
