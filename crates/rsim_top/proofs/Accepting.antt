@@ -1,12 +1,11 @@
 -- The order of a machine that has run is accepted.
-use Rattle.std.proofs.Common.{◌≡◌, ◌+◌, ◌*◌, ◌≤◌, ◌<◌, ℕ, zero, suc, true, List, [], ◌∷◌, length, map, get_or, sum, Option, None, Some, option_and_then, slice_get, refl, sym, ap, subst, ◌∙◌, arith}
+use Rattle.std.proofs.Common.{◌≡◌, ◌*◌, ◌≤◌, ◌<◌, ℕ, true, List, [], length, map, get_or, sum, Option, None, Some, option_and_then, slice_get, refl, ap, subst, ◌∙◌, arith}
 use Rattle.std.specs.List.{All}
 use Rattle.std.proofs.lemmas.List.{length-map}
 use Rattle.std.proofs.lemmas.List.Sums.{sum-map, sum_by-le}
 use Rattle.std.proofs.lemmas.Option.{slice_get-get_or, slice_get_within}
 use Rattle.rsim_base.specs.Made.{Made}
 use Rattle.rsim_base.specs.declared.memory.Access.{Access}
-use Rattle.rsim_base.specs.declared.memory.Model.{Model}
 use Rattle.elf64_load.specs.Image.{ImageView}
 use Rattle.machine_config.specs.Allowed.{IsAllowed, is_short}
 use Rattle.machine_config.specs.declared.config.Config.{Config}

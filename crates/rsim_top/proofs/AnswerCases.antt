@@ -1,5 +1,5 @@
 -- The answer of a run, from what its parts answered.
-use Rattle.std.proofs.Common.{◌≡◌, ◌⊎◌, ℕ, IsTrue, List, Option, Some, None, Result, Ok, Err, ⊎_elim, inl, inr, subst, refl, sym, ap, ◌∙◌, arith}
+use Rattle.std.proofs.Common.{◌≡◌, ◌⊎◌, ℕ, IsTrue, List, Some, None, Ok, Err, ⊎_elim, inl, inr, subst, refl, sym, ap, ◌∙◌, arith}
 use Rattle.std.specs.Option.{option_or}
 use Rattle.machine_config.specs.declared.config.Config.{Config}
 use Rattle.cycle_loop.specs.Answers.{all_retired}
@@ -7,7 +7,7 @@ use Rattle.cycle_loop.specs.Machine.{MachineView}
 use Rattle.command_words.specs.Asked.{RunAsked}
 use Rattle.rsim_top.specs.declared.refusal.Refusal.{Refusal}
 use Rattle.rsim_top.specs.declared.refusal.Refusal.TheVariants as refusal
-use Rattle.rsim_top.specs.Answers.{Answer, AnswersFile, AnswersRun, StopsAtOrder, StopsAtReport}
+use Rattle.rsim_top.specs.Answers.{AnswersFile, AnswersRun, StopsAtOrder, StopsAtReport}
 use Rattle.rsim_top.specs.AskedRun.{AskedRun}
 use Rattle.rsim_top.specs.Machine.{order_of, report_of}
 use Rattle.rsim_top.specs.Outside.{Shelf, Sink, outside, HasFile, HasPrefixOfFile, HasWritten}

@@ -1,5 +1,5 @@
 -- That each cause of a run's answer is always answered, and that where nothing is wrong and nothing fails nothing is refused.
-use Rattle.std.proofs.Common.{◌≡◌, ◌⊎◌, ◌*◌, ℕ, nat_le, not, Bool, true, false, IsTrue, List, Option, Some, None, option_map, Result, Ok, Err, ⊎_elim, inl, inr, subst, refl, sym, ap}
+use Rattle.std.proofs.Common.{◌≡◌, ◌⊎◌, ◌*◌, ℕ, nat_le, not, Bool, true, false, List, Option, Some, None, option_map, Result, Ok, Err, ⊎_elim, inl, inr, subst, refl}
 use Rattle.std.specs.Option.{option_or}
 use Rattle.machine_config.specs.declared.fault.ConfigFault.{ConfigFault}
 use Rattle.machine_config.specs.Faults.{first_fault as config_fault, given}
@@ -10,14 +10,13 @@ use Rattle.command_words.specs.declared.fault.WordsFault.{WordsFault}
 use Rattle.command_words.specs.Asked.{RunAsked, asked_of_run, AskedExecutable, file, generated}
 use Rattle.rsim_top.specs.declared.refusal.File.{File}
 use Rattle.rsim_top.specs.declared.refusal.File.TheVariants.{Config, Exe, Order, Report}
-use Rattle.rsim_top.specs.declared.refusal.Refusal.{Refusal}
 use Rattle.rsim_top.specs.declared.refusal.Refusal.TheVariants as refusal
 use Rattle.rsim_top.specs.Answers.{Answer, Answers, AnswersWords, AnswersExecutable, AnswersFile, AnswersRun}
 use Rattle.rsim_top.specs.Causes.{IsAsked, IsExact, IsComplete}
-use Rattle.rsim_top.specs.FileCauses.{IsDone, AreExact, AreComplete}
+use Rattle.rsim_top.specs.FileCauses.{IsDone}
 use Rattle.rsim_top.specs.Outside.{Outside, MayFail}
-use Rattle.rsim_top.specs.Steps.{image_refusal, setup_refusal, run_files}
-use Rattle.rsim_top.specs.TwoFiles.{when, AnswersFiles}
+use Rattle.rsim_top.specs.Steps.{run_files}
+use Rattle.rsim_top.specs.TwoFiles.{when}
 use Rattle.rsim_top.proofs.FileCauses.{AreExact-from_answer, AreExact-lacking, AreComplete-from_answer, AreComplete-lacking, IsSettled, failed_write}
 
 -- ---- the answer to words that name a file

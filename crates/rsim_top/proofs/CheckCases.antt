@@ -1,7 +1,6 @@
 -- The answer of a check, from what its parts answered.
-use Rattle.std.proofs.Common.{◌≡◌, ◌⊎◌, ℕ, List, Option, Some, None, Result, Ok, Err, ⊎_elim, inl, inr, subst, refl, sym, ap, ◌∙◌}
+use Rattle.std.proofs.Common.{◌≡◌, ℕ, List, Ok, Err, ⊎_elim, subst}
 use Rattle.command_words.specs.Asked.{CheckAsked}
-use Rattle.elf64_load.specs.Faults.{Loads}
 use Rattle.elf64_load.specs.Image.{ImageView}
 use Rattle.rsim_top.specs.declared.refusal.Refusal.{Refusal}
 use Rattle.rsim_top.specs.declared.verdict.Verdict.{Verdict}

@@ -1,21 +1,14 @@
 -- That each cause of a check's answer is always answered, that an order that fits is always accepted and one that does not
 -- rejected, and that where nothing is wrong and nothing fails nothing is refused.
-use Rattle.std.proofs.Common.{◌≡◌, ◌⊎◌, ℕ, IsTrue, List, Option, Some, None, option_map, Result, Ok, Err, ⊎_elim, inl, inr, subst, refl, sym, ap, ◌∙◌}
+use Rattle.std.proofs.Common.{◌≡◌, ◌⊎◌, ℕ, List, Option, Some, None, option_map, Result, Ok, Err, ⊎_elim, inl, inr, subst, refl, sym, ap, ◌∙◌}
 use Rattle.command_words.specs.declared.fault.WordsFault.{WordsFault}
 use Rattle.command_words.specs.Asked.{CheckAsked, asked_of_check, AskedExecutable, file, generated}
 use Rattle.elf64_load.specs.Faults.{first_fault as elf_fault, Loads}
 use Rattle.elf64_load.specs.Image.{ImageView}
 use Rattle.elf64_load.specs.declared.fault.ElfFault.{ElfFault}
-use Rattle.order_certificate.specs.Certificate.{CertificateView, IsCertificate, text_of}
-use Rattle.order_certificate.specs.Reading.{IsRead}
-use Rattle.order_certificate.specs.declared.fault.TextFault.{TextFault}
-use Rattle.order_checker.specs.Checked.{accepted, verdict}
-use Rattle.order_checker.specs.Fit.{Fit}
-use Rattle.order_checker.specs.declared.verdict.Rejected.{Rejected as Fault}
-use Rattle.sparc_meaning.specs.Run.{Ran}
+use Rattle.order_checker.specs.Checked.{accepted}
 use Rattle.rsim_top.specs.declared.refusal.File.{File}
 use Rattle.rsim_top.specs.declared.refusal.File.TheVariants.{Config, Exe, Order, Report}
-use Rattle.rsim_top.specs.declared.refusal.Refusal.{Refusal}
 use Rattle.rsim_top.specs.declared.refusal.Refusal.TheVariants as refusal
 use Rattle.rsim_top.specs.declared.verdict.Verdict.{Verdict}
 use Rattle.rsim_top.specs.declared.verdict.Verdict.TheVariants.{Accepted, Rejected}

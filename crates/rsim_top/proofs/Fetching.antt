@@ -5,8 +5,7 @@ use Rattle.std.specs.FinMap.{get}
 use Rattle.rsim_io.specs.Files.{Files}
 use Rattle.rsim_top.specs.declared.refusal.File.{File}
 use Rattle.rsim_top.specs.declared.refusal.Refusal.TheVariants.{Big}
-use Rattle.rsim_top.specs.Outside.{Shelf}
-use Rattle.rsim_top.specs.TwoFiles.{IsFetched, fetch_refusal}
+use Rattle.rsim_top.specs.TwoFiles.{fetch_refusal}
 
 -- a file that is longer than the limit, where the files are told, and else some file that is
 pub long_file : (told : Option Files) (name : List ℕ) (bytes : List ℕ) (limit : ℕ) → length bytes ≡ limit + 1 →

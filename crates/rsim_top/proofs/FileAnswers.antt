@@ -1,11 +1,10 @@
 -- What a command answers of the two files that it fetches, from what the fetches answered.
-use Rattle.std.proofs.Common.{◌≡◌, ◌⊎◌, ℕ, ◌≤◌, IsTrue, List, [], Option, Some, None, Result, Ok, Err, Vec, IfSome, ⊎_elim, inl, inr, subst, refl, sym, ap, ◌∙◌, arith}
+use Rattle.std.proofs.Common.{◌≡◌, ◌⊎◌, ℕ, ◌≤◌, IsTrue, List, Option, Some, None, Result, Ok, Err, Vec, IfSome, ⊎_elim, inl, inr, subst, refl, sym, ap, ◌∙◌, arith}
 use Rattle.std.specs.FinMap.{get}
-use Rattle.std.specs.Option.{option_or}
 use Rattle.rsim_io.specs.Faults.{Rose}
 use Rattle.rsim_top.specs.declared.refusal.Refusal.{Refusal}
 use Rattle.rsim_top.specs.declared.refusal.Refusal.TheVariants as refusal
-use Rattle.rsim_top.specs.Outside.{Shelf, Sink, Outside, outside, IsUntouched}
+use Rattle.rsim_top.specs.Outside.{Shelf, Sink, outside, IsUntouched}
 use Rattle.rsim_top.specs.Parts.{Fetches, Kept}
 use Rattle.rsim_top.specs.TwoFiles.{TwoFiles, IsFetched, fetch_refusal, Fetched, first_refusal, AnswersFetched, AnswersFiles}
 

@@ -1,16 +1,15 @@
 -- That each cause among two files is always answered, and that where nothing is wrong and nothing fails nothing is refused,
 -- from what an answer says.
-use Rattle.std.proofs.Common.{◌≡◌, ◌⊎◌, ℕ, nat_lt, Bool, true, false, IsTrue, List, [], length, Option, Some, None, unwrap_or, Result, Ok, Err, IfSome, ⊎_elim, inl, inr, subst, refl, sym, ap, ◌∙◌}
+use Rattle.std.proofs.Common.{◌≡◌, ◌⊎◌, ℕ, nat_lt, Bool, true, false, IsTrue, List, [], length, Option, Some, None, unwrap_or, Result, Err, IfSome, ⊎_elim, inl, inr, subst, refl, sym, ap, ◌∙◌}
 use Rattle.std.specs.FinMap.{get}
 use Rattle.std.specs.Option.{option_or}
-use Rattle.rsim_io.specs.Faults.{Rose}
 use Rattle.rsim_io.specs.Files.{Files}
 use Rattle.rsim_top.specs.declared.refusal.File.{File}
 use Rattle.rsim_top.specs.declared.refusal.Refusal.{Refusal}
 use Rattle.rsim_top.specs.declared.refusal.Refusal.TheVariants as refusal
 use Rattle.rsim_top.specs.FileCauses.{IsRefused, IsHeld, IsMissing, IsDone, AreReady, AreExact, AreComplete}
 use Rattle.rsim_top.specs.Outside.{Outside, MayFail}
-use Rattle.rsim_top.specs.TwoFiles.{TwoFiles, IsFetched, when, fetch_refusal, first_refusal, Fetched, AnswersFetched, AnswersFiles}
+use Rattle.rsim_top.specs.TwoFiles.{TwoFiles, IsFetched, when, fetch_refusal, first_refusal, AnswersFetched, AnswersFiles}
 use Rattle.rsim_top.proofs.Places.{Some-injective}
 
 -- ---- what was fetched

@@ -1,5 +1,5 @@
 -- The verdict on an order, from what the checker answered.
-use Rattle.std.proofs.Common.{◌≡◌, ℕ, List, Result, Ok, Err, refl, sym, ap, ◌∙◌}
+use Rattle.std.proofs.Common.{◌≡◌, ℕ, List, Result, Ok, Err, refl, ap}
 use Rattle.elf64_load.specs.Image.{ImageView}
 use Rattle.order_certificate.specs.Certificate.{CertificateView, IsCertificate, text_of}
 use Rattle.order_certificate.specs.Reading.{IsRead}
@@ -10,8 +10,7 @@ use Rattle.order_checker.specs.declared.verdict.Accepted.{Accepted as Told}
 use Rattle.order_checker.specs.declared.verdict.Rejected.{Rejected as Fault}
 use Rattle.order_checker.specs.declared.verdict.Rejected.TheVariants as fault
 use Rattle.sparc_meaning.specs.Run.{Ran}
-use Rattle.rsim_top.specs.Accepted.{IsAccepted}
-use Rattle.rsim_top.specs.CheckAnswers.{IsRejected, IsJudgement, verdict_of}
+use Rattle.rsim_top.specs.CheckAnswers.{IsJudgement, verdict_of}
 use Rattle.rsim_top.specs.CheckParts.{ChecksOrder, outcome_of}
 use Rattle.rsim_top.specs.declared.verdict.Verdict.TheVariants.{Accepted, Rejected}
 

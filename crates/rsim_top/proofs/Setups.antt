@@ -2,7 +2,7 @@
 use Rattle.std.proofs.Common.{◌≡◌, ℕ, true, false, Ok, Some, None, refl, sym, arith}
 use Rattle.machine_config.specs.declared.config.Config.{Config}
 use Rattle.machine_config.specs.Allowed.{is_short}
-use Rattle.machine_config.specs.Faults.{first_fault, given, IsNamedBy, Reads}
+use Rattle.machine_config.specs.Faults.{given, IsNamedBy, Reads}
 use Rattle.machine_config.specs.Keys.{keys, processors, retire_width}
 use Rattle.std.specs.Prelude.{List}
 use Rattle.rsim_top.specs.declared.refusal.Refusal.TheVariants.{TooLong}

@@ -1,6 +1,5 @@
 -- What each part of a command answers and leaves.
 use Rattle.std.specs.Prelude.{◌≡◌, ◌⊎◌, ◌≤◌, ℕ, true, List, Option, Some, None, Result, Ok, Err, Vec}
-use Rattle.rsim_io.specs.Files.{Files}
 use Rattle.command_words.specs.declared.read.RunWords.{RunWords}
 use Rattle.command_words.specs.Asked.{RunAsked}
 use Rattle.command_words.specs.Reading.{executable_of}

@@ -1,4 +1,4 @@
-use Rattle.std.proofs.Common.{◌≡◌, ◌≤◌, ◌<◌, ◌+◌, ◌*◌, length, arith, refl}
+use Rattle.std.proofs.Common.{arith}
 use Rattle.rsim_top.specs.Machine.{flat_view}
 use Rattle.rsim_top.proofs.Counting.{retired_all, retired_more}
 use Rattle.rsim_top.proofs.command.all_retired.Goals as goal

@@ -1,9 +1,8 @@
 use Rattle.std.proofs.lemmas.Result.{err_from_is_err_and}
-use Rattle.std.proofs.Common.{◌≡◌, ◌∙◌, ap, sym, subst, Err}
+use Rattle.std.proofs.Common.{◌∙◌, ap}
 use Rattle.rsim_top.proofs.AnswerCases.{Made, AnswersFile-at_order, AnswersFile-at_report, AnswersFile-at_end, report_of-same, refused_setup, refused_image}
 use Rattle.cycle_loop.specs.Answers.{all_retired}
 use Rattle.rsim_top.specs.Machine.{flat_view}
-use Rattle.rsim_top.specs.Parts.{PutsReport}
 use Rattle.rsim_top.specs.Answers.{AnswersRun}
 use Rattle.rsim_top.specs.Parts.{asked_by}
 use Rattle.rsim_top.specs.Steps.{run_files}

@@ -1,11 +1,8 @@
-use Rattle.std.proofs.Common.{◌≡◌, ◌≤◌, ◌∙◌, refl, sym, ap, subst, arith}
+use Rattle.std.proofs.Common.{◌≡◌, ◌∙◌, sym, subst}
 use Rattle.elf64_load.specs.Image.{ImageView}
-use Rattle.cycle_loop.specs.Machine.{MachineView}
-use Rattle.cycle_loop.specs.Ready.{AreCounted}
-use Rattle.cycle_loop.specs.Stands.{Closed, Stands}
+use Rattle.cycle_loop.specs.Stands.{Closed}
 use Rattle.cycle_loop.specs.Start.{IsAtStart}
 use Rattle.memory_contracts.specs.Start.{IsStart}
-use Rattle.memory_contracts.specs.Store.{StoreView}
 use Rattle.rsim_top.specs.Machine.{flat_view}
 use Rattle.rsim_top.specs.Run.{RunsOn}
 use Rattle.rsim_top.proofs.Running.{HasRun-closed, few_cycles, sizes_of}

@@ -1,4 +1,4 @@
-use Rattle.std.proofs.Common.{◌≡◌, ◌≤◌, ◌<◌, ◌+◌, false, ◌∙◌, subst, arith}
+use Rattle.std.proofs.Common.{◌≡◌, ◌<◌, false, ◌∙◌, subst, arith}
 use Rattle.elf64_load.specs.Image.{ImageView}
 use Rattle.cycle_loop.specs.Answers.{have_ended}
 use Rattle.cycle_loop.specs.Machine.{CoreCycle}

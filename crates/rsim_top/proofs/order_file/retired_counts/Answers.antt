@@ -1,5 +1,4 @@
 use Rattle.std.proofs.Common.{◌≡◌, ◌++◌, ◌∷◌, [], ap, sym, ◌∙◌, arith, rules}
-use Rattle.cycle_loop.specs.Machine.{CoreView}
 use Rattle.rsim_top.specs.Machine.{counts_of, flat_view}
 use Rattle.rsim_top.proofs.Texts.{IsOf-map, count_of, counts_from, counts_put, put_more}
 use Rattle.rsim_top.proofs.order_file.retired_counts.Goals as goal

@@ -1,4 +1,4 @@
-use Rattle.std.proofs.Common.{◌∙◌, ap, sym}
+use Rattle.std.proofs.Common.{◌∙◌}
 use Rattle.std.proofs.lemmas.Result.{err_from_is_err_and}
 use Rattle.order_certificate.specs.OrderText.{line}
 use Rattle.rsim_io.specs.declared.shelf.StoreFault.TheVariants.{Memory}

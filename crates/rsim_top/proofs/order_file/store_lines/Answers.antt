@@ -1,4 +1,4 @@
-use Rattle.std.proofs.Common.{◌≡◌, ◌++◌, ◌∷◌, [], Some, None, Ok, Err, refl, sym, ap, subst, ◌∙◌, arith, append-nil}
+use Rattle.std.proofs.Common.{◌≡◌, ◌++◌, ◌∷◌, [], Some, Ok, Err, refl, sym, ap, subst, ◌∙◌, arith}
 use Rattle.std.proofs.lemmas.Result.{err_from_is_err_and}
 use Rattle.std.specs.List.{flat_map}
 use Rattle.order_certificate.specs.OrderText.{line}
@@ -6,8 +6,7 @@ use Rattle.order_log.specs.Laws.{AreRetired}
 use Rattle.order_log.specs.Log.{after_pop, first_final}
 use Rattle.cycle_loop.specs.Machine.{MachineView}
 use Rattle.rsim_top.specs.Machine.{accesses_of, flat_view}
-use Rattle.rsim_top.specs.Pieces.{GoesOn}
-use Rattle.rsim_top.proofs.OrderFiles.{AreRetired-popped, GoesOn-both, GoesOn-longer, GoesOn-nothing, line_behind, lines_rest, lines_taken, none_left, shorter_popped}
+use Rattle.rsim_top.proofs.OrderFiles.{AreRetired-popped, GoesOn-both, GoesOn-longer, GoesOn-nothing, line_behind, lines_rest, lines_taken}
 use Rattle.rsim_top.proofs.order_file.store_lines.Goals as goal
 
 pub loop-access-init : goal.loop-access-init
