@@ -24,32 +24,32 @@
         .comm   x, 8, 128
         .comm   y, 8, 128
 
-#define BEGIN                           \
-        .text;                          \
-        .globl  main;                   \
-main:   sethi   %hi(x), %g1;            \
-        or      %g1, %lo(x), %g1;       \
-        sethi   %hi(y), %g2;            \
-        or      %g2, %lo(y), %g2;       \
-        sethi   %hi(programs), %o2;     \
-        or      %o2, %lo(programs), %o2; \
-        sllx    %o0, 10, %o0;           \
-        jmp     %o2 + %o0;              \
-        mov     1, %g3;                 \
-        .align  1024;                   \
-programs:
+#define BEGIN                               \
+        .text;                              \
+        .globl  main;                       \
+main:   sethi   %hi(x), %g1;                \
+        or      %g1, %lo(x), %g1;           \
+        sethi   %hi(y), %g2;                \
+        or      %g2, %lo(y), %g2;           \
+        sethi   %hi(.Lprograms), %o2;       \
+        or      %o2, %lo(.Lprograms), %o2;  \
+        sllx    %o0, 10, %o0;               \
+        jmp     %o2 + %o0;                  \
+        mov     1, %g3;                     \
+        .align  1024;                       \
+.Lprograms:
 
 ! Programs stand 1,024 bytes apart.
-#define PROGRAM(p)                      \
-        .align  1024;                   \
-        .rept   DELAY##p;               \
-        nop;                            \
+#define PROGRAM(p)                          \
+        .align  1024;                       \
+        .rept   DELAY##p;                   \
+        nop;                                \
         .endr
 
-#define PUT(r)                          \
-        mov     r, %o0;                 \
+#define PUT(r)                              \
+        mov     r, %o0;                     \
         ta      18
 
-#define FINISH                          \
-        mov     0, %o0;                 \
+#define FINISH                              \
+        mov     0, %o0;                     \
         ta      16
