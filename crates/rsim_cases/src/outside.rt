@@ -1,20 +1,21 @@
-// Commands over files in memory, and what came out of them: a text of the answer, the report, and the order or
-// `none`.
+// Commands over files in memory, and what they leave.
+use crate::left::{Left, text_of};
+use crate::verdict::verdict_on;
 use anyhow::Result;
 use rsim_io::{MemShelf, MemSink, Shelf, Sink, SureShelf, SureSink};
 use rsim_top::{Refusal, Reported, run_command};
 use std::alloc::Global;
-use std::str;
 
-/// What comes out of a command of these words, parted by spaces, over these bytes under the names `config` and
-/// `exe`. Where it is not the same over a shelf and a sink that cannot fail, it says so first.
-pub fn found(alloc: Global, line: &str, config: &[u8], exe: &[u8]) -> Result<String> {
-    let found = failing(alloc, line, config, exe, Vec::new(alloc), Vec::new(alloc))?;
-    let surely = surely(alloc, line, config, exe)?;
-    if surely == found {
-        return Ok(found);
+/// What a command of these words, parted by spaces, leaves over these bytes under the names `config` and `exe`. Where
+/// it is not the same over a shelf and a sink that cannot fail, the answer says so.
+pub fn found(alloc: Global, line: &str, config: &[u8], exe: &[u8]) -> Result<Left> {
+    let mut left = failing(alloc, line, config, exe, Vec::new(alloc), Vec::new(alloc))?;
+    let found = left.text(alloc)?;
+    let surely = surely(alloc, line, config, exe)?.text(alloc)?;
+    if surely != found {
+        left.answer = format!(in alloc; "otherwise where nothing fails: {surely}\n{}", left.answer)?;
     }
-    Ok(format!(in alloc; "otherwise where nothing fails: {surely}\n{found}")?)
+    Ok(left)
 }
 
 /// The same where the calls of the shelf and of the sink with these numbers fail.
@@ -25,23 +26,25 @@ pub fn failing(
     exe: &[u8],
     of_shelf: Vec<u32>,
     of_sink: Vec<u32>,
-) -> Result<String> {
+) -> Result<Left> {
     let mut shelf = shelf_with(alloc, config, exe, of_shelf)?;
     let mut out = MemSink::make(alloc, of_sink)?;
     let answer = answer_to(alloc, line, &mut shelf, &mut out)?;
     let keeps = shelf.file("config") == Some(config) && shelf.file("exe") == Some(exe);
-    told(alloc, &answer, keeps, out.bytes(), shelf.file("order"))
+    let answer = with_change(answer, keeps)?;
+    left(alloc, answer, out.bytes(), exe, shelf.file("order"))
 }
 
 // The same over a shelf and a sink none of whose calls can fail.
-fn surely(alloc: Global, line: &str, config: &[u8], exe: &[u8]) -> Result<String> {
+fn surely(alloc: Global, line: &str, config: &[u8], exe: &[u8]) -> Result<Left> {
     let mut shelf = SureShelf::make(alloc)?;
     shelf.set("config", config)?;
     shelf.set("exe", exe)?;
     let mut out = SureSink::make(alloc)?;
     let answer = answer_to(alloc, line, &mut shelf, &mut out)?;
     let keeps = shelf.file("config") == Some(config) && shelf.file("exe") == Some(exe);
-    told(alloc, &answer, keeps, out.bytes(), shelf.file("order"))
+    let answer = with_change(answer, keeps)?;
+    left(alloc, answer, out.bytes(), exe, shelf.file("order"))
 }
 
 /// A shelf with these bytes under the names `config` and `exe`, whose calls with these numbers fail.
@@ -87,25 +90,31 @@ pub fn refused(alloc: Global, refusal: Refusal) -> Result<String> {
     Ok(format!(in alloc; "{} {refusal}", refusal.code())?)
 }
 
-// All that came out, as one text, where the configuration and the executable are as they were or not.
-fn told(
-    alloc: Global,
-    answer: &str,
-    keeps: bool,
-    report: &[u8],
-    order: Option<&[u8]>,
-) -> Result<String> {
-    let change = if keeps {
-        ""
-    } else {
-        ", and a file was changed"
-    };
-    let report = text_of(report);
-    let order = order.map_or("none", text_of);
-    Ok(format!(in alloc; "{answer}{change}\n{report}order:\n{order}")?)
+// An answer, after which the configuration and the executable are as they were or not.
+fn with_change(mut answer: String, keeps: bool) -> Result<String> {
+    if !keeps {
+        answer.push_str(", and a file was changed")?;
+    }
+    Ok(answer)
 }
 
-/// Bytes that should be a text.
-pub fn text_of(bytes: &[u8]) -> &str {
-    str::from_utf8(bytes).unwrap_or("not a text")
+/// What is left after this answer, with this on standard output and this order for the executable.
+pub fn left(
+    alloc: Global,
+    answer: String,
+    report: &[u8],
+    exe: &[u8],
+    order: Option<&[u8]>,
+) -> Result<Left> {
+    let verdict = match order {
+        Some(order) => verdict_on(alloc, exe, order)?,
+        None => String::from_str(alloc, "none")?,
+    };
+    let order = order.map_or("none", text_of);
+    Ok(Left {
+        answer,
+        report: String::from_str(alloc, text_of(report))?,
+        order: String::from_str(alloc, order)?,
+        verdict,
+    })
 }
