@@ -35,7 +35,9 @@ fn found_in(whole: &Left, cut: &Left, least: usize) -> &'static str {
         "no part"
     } else if cut.order.len() < least || whole.order.len() <= cut.order.len() {
         "another length"
-    } else if !whole.verdict.starts_with("accepted ") || cut.verdict.as_str() != "rejected Truncated" {
+    } else if !whole.verdict.starts_with("accepted ")
+        || cut.verdict.as_str() != "rejected Truncated"
+    {
         "another verdict"
     } else {
         "a part"

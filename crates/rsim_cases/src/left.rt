@@ -19,9 +19,10 @@ pub struct Left {
 impl Left {
     /// All of it as one text.
     pub fn text(&self, alloc: Global) -> Result<String> {
-        Ok(
-            format!(in alloc; "{}\n{}order:\n{}\ncheck: {}\n", self.answer, self.report, self.order, self.verdict)?,
-        )
+        Ok(format!(in alloc;
+            "{}\n{}order:\n{}\ncheck: {}\n",
+            self.answer, self.report, self.order, self.verdict
+        )?)
     }
 
     /// How many accesses the order has.

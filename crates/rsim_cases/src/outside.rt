@@ -13,7 +13,10 @@ pub fn found(alloc: Global, line: &str, config: &[u8], exe: &[u8]) -> Result<Lef
     let found = left.text(alloc)?;
     let surely = surely(alloc, line, config, exe)?.text(alloc)?;
     if surely != found {
-        left.answer = format!(in alloc; "otherwise where nothing fails: {surely}\n{}", left.answer)?;
+        left.answer = format!(in alloc;
+            "otherwise where nothing fails: {surely}\n{}",
+            left.answer
+        )?;
     }
     Ok(left)
 }

@@ -73,9 +73,10 @@ fn found_part(alloc: Global, left: &Left, lines: &str) -> Result<String> {
 }
 
 fn part_text(alloc: Global, left: &Left, accesses: &str, among: &str) -> Result<String> {
-    Ok(
-        format!(in alloc; "{}\n{}{accesses} accesses\n{among}check: {}\n", left.answer, left.report, left.verdict)?,
-    )
+    Ok(format!(in alloc;
+        "{}\n{}{accesses} accesses\n{among}check: {}\n",
+        left.answer, left.report, left.verdict
+    )?)
 }
 
 fn among(alloc: Global, order: &str, lines: &str) -> Result<String> {

@@ -59,8 +59,7 @@ impl<'a> Told<'a> {
     pub fn order(self, alloc: Global, accesses: &str) -> Result<String> {
         let model = self.setting.model;
         let processors = self.endings.split(';').count();
-        let mut text =
-            format!(in alloc; "rsim order 1\nmodel {model}\nprocessors {processors}\n")?;
+        let mut text = format!(in alloc; "rsim order 1\nmodel {model}\nprocessors {processors}\n")?;
         push_lines(&mut text, accesses)?;
         self.push_end(&mut text)?;
         Ok(text)

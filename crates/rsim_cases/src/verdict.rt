@@ -12,7 +12,10 @@ pub fn verdict_on(alloc: Global, exe: &[u8], order: &[u8]) -> Result<String> {
     shelf.set("exe", exe)?;
     shelf.set("order", order)?;
     let mut out = MemSink::make(alloc, Vec::new(alloc))?;
-    let words = vec![in alloc; String::from_str(alloc, "exe")?, String::from_str(alloc, "order")?]?;
+    let words = vec![in alloc;
+        String::from_str(alloc, "exe")?,
+        String::from_str(alloc, "order")?,
+    ]?;
     let answer = check_command(alloc, &words, &mut shelf, &mut out);
     let told = match answer {
         Ok(verdict) => told(alloc, text_of(out.bytes()), verdict.code())?,
