@@ -3,20 +3,27 @@ use crate::executables::executable;
 use crate::fields::field;
 use crate::left::Left;
 use crate::outcome::{Outcome, outcome_of};
-use crate::outside::{answer_to, failing, found, left, shelf_with};
+use crate::outside::Command;
 use anyhow::Result;
-use rsim_io::MemSink;
 use std::alloc::Global;
 
 // A program that exits at once.
 const EXIT: &str = "91D02010";
 
-/// `ANSWER | WORD ..`, over a program that exits at once and an empty configuration.
+/// `ANSWER | WORD .. | ORDER`, over a program that exits at once and an empty configuration: the order has this name,
+/// or `order` where none is given.
 pub fn words(alloc: Global, case: &str) -> Result<Outcome> {
-    let (answer, words) = field(case);
+    let (answer, case) = field(case);
+    let (words, order) = field(case);
+    let order = order.trim();
     let exe = executable(alloc, EXIT)?;
-    let found = found(alloc, words, b"", &exe)?;
-    answered(alloc, answer, &found)
+    let command = Command {
+        words,
+        config: b"",
+        exe: &exe,
+        order: if order.is_empty() { "order" } else { order },
+    };
+    answered(alloc, answer, &command.left(alloc)?)
 }
 
 /// `ANSWER | CYCLES | CONFIG | EXE`.
@@ -26,9 +33,14 @@ pub fn files(alloc: Global, case: &str) -> Result<Outcome> {
     let (config, exe) = field(case);
     let config = config_of(alloc, config)?;
     let exe = exe_of(alloc, exe.trim())?;
-    let line = format!(in alloc; "exe config {cycles} order")?;
-    let found = found(alloc, &line, &config, &exe)?;
-    answered(alloc, answer, &found)
+    let words = format!(in alloc; "exe config {cycles} order")?;
+    let command = Command {
+        words: words.as_str(),
+        config: &config,
+        exe: &exe,
+        order: "order",
+    };
+    answered(alloc, answer, &command.left(alloc)?)
 }
 
 // What a command answered. What is refused is to leave no report and no order; of a run only the answer and the verdict
@@ -44,32 +56,43 @@ fn answered(alloc: Global, answer: &str, found: &Left) -> Result<Outcome> {
 /// `CALL | ANSWER | ORDER | VERDICT`: the call of the shelf with this number fails, and so much of the order is left.
 pub fn shelf(alloc: Global, case: &str) -> Result<Outcome> {
     let (call, wanted) = field(case);
-    let exe = executable(alloc, EXIT)?;
     let calls = vec![in alloc; call.parse::<u32>()?]?;
-    let none = Vec::new(alloc);
-    let found = failing(alloc, "exe config 5 order", b"", &exe, calls, none)?;
+    let exe = executable(alloc, EXIT)?;
+    let found = run_of(&exe).left_by_failing(alloc, calls, Vec::new(alloc))?;
     leaving(alloc, wanted, &found)
 }
 
 /// `CALL | ANSWER | ORDER | VERDICT`: the call of the sink with this number fails, and so much of the order is left.
 pub fn sink(alloc: Global, case: &str) -> Result<Outcome> {
     let (call, wanted) = field(case);
-    let exe = executable(alloc, EXIT)?;
     let calls = vec![in alloc; call.parse::<u32>()?]?;
-    let none = Vec::new(alloc);
-    let found = failing(alloc, "exe config 5 order", b"", &exe, none, calls)?;
+    let exe = executable(alloc, EXIT)?;
+    let found = run_of(&exe).left_by_failing(alloc, Vec::new(alloc), calls)?;
     leaving(alloc, wanted, &found)
 }
 
-/// `ANSWER | ORDER | VERDICT`: the order is written over the executable.
+/// `ANSWER | ORDER | VERDICT`: the order is written over the executable. The report is not looked at.
 pub fn over(alloc: Global, case: &str) -> Result<Outcome> {
     let exe = executable(alloc, EXIT)?;
-    let mut shelf = shelf_with(alloc, b"", &exe, Vec::new(alloc))?;
-    let mut out = MemSink::make(alloc, Vec::new(alloc))?;
-    let answer = answer_to(alloc, "exe config 5 exe", &mut shelf, &mut out)?;
-    // the report is not looked at
-    let found = left(alloc, answer, b"", &exe, shelf.file("exe"))?;
+    let over = Command {
+        words: "exe config 5 exe",
+        config: b"",
+        exe: &exe,
+        order: "exe",
+    };
+    let mut found = over.left(alloc)?;
+    found.report.clear();
     leaving(alloc, case, &found)
+}
+
+// A run of this executable.
+fn run_of(exe: &[u8]) -> Command<'_> {
+    Command {
+        words: "exe config 5 order",
+        config: b"",
+        exe,
+        order: "order",
+    }
 }
 
 // `ANSWER | ORDER | VERDICT`, with `\n` for a line feed, and what was left.

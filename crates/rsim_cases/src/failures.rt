@@ -3,7 +3,7 @@ use crate::executables::executable;
 use crate::fields::field;
 use crate::left::Left;
 use crate::outcome::{Outcome, outcome_of};
-use crate::outside::{failing, refused};
+use crate::outside::{Command, refused};
 use anyhow::{Result, bail};
 use elf64_load::ElfFault;
 use rsim_top::{File, Refusal};
@@ -16,10 +16,16 @@ pub fn cut(alloc: Global, case: &str) -> Result<Outcome> {
     let (least, case) = field(case);
     let (cycles, code) = field(case);
     let exe = executable(alloc, code)?;
-    let line = format!(in alloc; "exe config {cycles} order")?;
+    let words = format!(in alloc; "exe config {cycles} order")?;
+    let command = Command {
+        words: words.as_str(),
+        config: b"",
+        exe: &exe,
+        order: "order",
+    };
     let calls = vec![in alloc; call.parse::<u32>()?]?;
-    let whole = failing(alloc, &line, b"", &exe, Vec::new(alloc), Vec::new(alloc))?;
-    let cut = failing(alloc, &line, b"", &exe, calls, Vec::new(alloc))?;
+    let whole = command.left(alloc)?;
+    let cut = command.left_by_failing(alloc, calls, Vec::new(alloc))?;
     outcome_of(
         alloc,
         "a part",

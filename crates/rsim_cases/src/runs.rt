@@ -3,7 +3,7 @@ use crate::executables::{executable, linked};
 use crate::fields::field;
 use crate::left::Left;
 use crate::outcome::Outcome;
-use crate::outside;
+use crate::outside::Command;
 use crate::setting::Setting;
 use crate::told::{Told, count, push_lines};
 use anyhow::Result;
@@ -61,8 +61,14 @@ pub fn wanted(alloc: Global, setting: Setting<'_>, told: &str) -> Result<Left> {
 /// What a run of a file leaves.
 pub fn found(alloc: Global, setting: Setting<'_>, file: &[u8]) -> Result<Left> {
     let config = setting.config(alloc)?;
-    let line = format!(in alloc; "exe config {} order", setting.bound)?;
-    outside::found(alloc, line.as_str(), config.as_bytes(), file)
+    let words = format!(in alloc; "exe config {} order", setting.bound)?;
+    let command = Command {
+        words: words.as_str(),
+        config: config.as_bytes(),
+        exe: file,
+        order: "order",
+    };
+    command.left(alloc)
 }
 
 // What a run left, of its order only how many accesses it has, and those of these lines, parted by `|`, that it has.
