@@ -37,9 +37,11 @@ pub fn part(alloc: Global, case: &str) -> Result<Outcome> {
     let found = found(alloc, setting, &file)?;
     let (told, rest) = Told::read(setting, told);
     let (accesses, lines) = field(rest);
-    let wanted = told.left(alloc, lines_of(alloc, lines)?, accesses.parse::<usize>()?)?;
+    let wanted = told.left(alloc, String::new(alloc), accesses.parse::<usize>()?)?;
+    let mut among = String::new(alloc);
+    push_lines(&mut among, lines)?;
     Ok(Outcome {
-        wanted: part_text(alloc, &wanted, accesses, wanted.order.as_str())?,
+        wanted: part_text(alloc, &wanted, accesses, among.as_str())?,
         found: found_part(alloc, &found, lines)?,
     })
 }
@@ -95,10 +97,4 @@ fn among(alloc: Global, order: &str, lines: &str) -> Result<String> {
         }
     }
     Ok(among)
-}
-
-fn lines_of(alloc: Global, lines: &str) -> Result<String> {
-    let mut text = String::new(alloc);
-    push_lines(&mut text, lines)?;
-    Ok(text)
 }
