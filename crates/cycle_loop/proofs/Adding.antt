@@ -11,7 +11,6 @@ use Rattle.rsim_base.specs.declared.memory.Size.{Size}
 use Rattle.rsim_base.specs.declared.memory.Size.TheVariants.{B1, B2, B4, B8}
 use Rattle.elf64_load.specs.Image.{ImageView}
 use Rattle.memory_contracts.specs.Store.{stored, value_at}
-use Rattle.order_certificate.specs.OrderText.{IsPrintable}
 use Rattle.order_checker.specs.Faults.{writes}
 use Rattle.order_checker.specs.Values.{loaded_byte, stored_byte}
 use Rattle.order_checker.specs.Walking.{written_byte}
@@ -26,6 +25,7 @@ use Rattle.sparc_meaning.specs.StepReads.{step_reads, step_aligned, step_found, 
 use Rattle.sparc_meaning.specs.Wants.{wanted}
 use Rattle.cycle_loop.specs.Kept.{HasNumbers}
 use Rattle.cycle_loop.specs.Machine.{bytes_after, next_step, value_found}
+use Rattle.cycle_loop.specs.Stands.{IsTold}
 use Rattle.cycle_loop.proofs.Explained.{byte_in_memory}
 use Rattle.cycle_loop.proofs.Written.{stored-is, value_at-byte, value_at-fits}
 
@@ -77,7 +77,7 @@ pub record IsMemory (image : ImageView) (order : List Access) (bytes : ℕ → �
 pub record Adds (image : ImageView) (order : List Access) (bytes after : ℕ → ℕ) (p i : ℕ) (e : Access) : Type 0 where
   pub node : e.node.0 ≡ p
   pub index : e.index ≡ i
-  pub printable : IsPrintable e
+  pub told : IsTold e
   pub value : loads e.kind ≡ true → (byte : ℕ) → IsByteOf byte e.addr.0 (count_of e.size) → loaded_byte e byte ≡ written_byte image order (length order) byte
   pub after_it : (a : ℕ) → a < 2 ^ 64 → after a ≡ (if writes a (Some e) then stored_byte e a else bytes a)
   pub small : (a : ℕ) → a < 2 ^ 64 → after a < 256
@@ -134,7 +134,11 @@ adds image order bytes p i (Load addr n loaded) memory is numbers =
       record {
         node = refl;
         index = refl;
-        printable = record { addr = has.addr; loaded = found_fits image order bytes addr.0 n loaded memory is.aligned has.addr is.found; stored = pow_pos (8 * count_of n) };
+        told = record {
+          printable = record { addr = has.addr; loaded = found_fits image order bytes addr.0 n loaded memory is.aligned has.addr is.found; stored = pow_pos (8 * count_of n) };
+          loaded = λ lacks. absurd cc;
+          stored = λ lacks. refl;
+        };
         value = λ is_load. found_bytes image order bytes (record { node = record { 0 = p }; kind = kind.Load; size = n; index = i; addr = addr; loaded = loaded; stored = 0 }) memory is.aligned has.addr is.found;
         after_it = λ a fits. refl;
         small = memory.small;
@@ -147,7 +151,11 @@ adds image order bytes p i (Store addr n value) memory is numbers =
       record {
         node = refl;
         index = refl;
-        printable = record { addr = has.addr; loaded = pow_pos (8 * count_of n); stored = is.sized has.stored };
+        told = record {
+          printable = record { addr = has.addr; loaded = pow_pos (8 * count_of n); stored = is.sized has.stored };
+          loaded = λ lacks. refl;
+          stored = λ lacks. absurd cc;
+        };
         value = λ is_load. absurd cc;
         after_it = λ a fits. stored-is bytes addr.0 n value a is.aligned has.addr fits;
         small = λ a fits. stored_small bytes addr.0 n value a is.aligned has.addr fits (memory.small a fits);
@@ -161,7 +169,11 @@ adds image order bytes p i (Atomic addr n loaded value) memory is numbers =
       record {
         node = refl;
         index = refl;
-        printable = record { addr = has.addr; loaded = fits_loaded; stored = is.sized fits_loaded };
+        told = record {
+          printable = record { addr = has.addr; loaded = fits_loaded; stored = is.sized fits_loaded };
+          loaded = λ lacks. absurd cc;
+          stored = λ lacks. absurd cc;
+        };
         value = λ is_load. found_bytes image order bytes (record { node = record { 0 = p }; kind = kind.Atomic; size = n; index = i; addr = addr; loaded = loaded; stored = value }) memory is.aligned has.addr is.found;
         after_it = λ a fits. stored-is bytes addr.0 n value a is.aligned has.addr fits;
         small = λ a fits. stored_small bytes addr.0 n value a is.aligned has.addr fits (memory.small a fits);

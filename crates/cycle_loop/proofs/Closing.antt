@@ -12,7 +12,7 @@ use Rattle.order_checker.specs.Order.{IsEntryOf, Respects, made_at}
 use Rattle.sparc_meaning.specs.Run.{Ran, run}
 use Rattle.cycle_loop.specs.Machine.{CoreView, MachineView}
 use Rattle.cycle_loop.specs.Stands.{Closed, IsRunOf, Stands, loaded_values, order_so_far}
-use Rattle.cycle_loop.proofs.Cycling.{AreRetired-taken, TakesFirst, order_so_far-taken}
+use Rattle.cycle_loop.proofs.Cycling.{AreRetired-taken, TakesFirst, few_taken, order_so_far-taken}
 use Rattle.cycle_loop.proofs.Listing.{IsListed}
 use Rattle.cycle_loop.proofs.Places.{Some-injective, slice_get_mapped, slice_get_unmapped}
 use Rattle.cycle_loop.proofs.Turning.{IsRunOf-listed}
@@ -170,9 +170,10 @@ Closed-from image model taken m stands =
       fits = fit image model m taken all.list stands are;
       are_runs = λ p c ran at_core at_run.
           let by = all.each p c ran at_core at_run in
-          (ap (λ (r : Ran). r.state) (sym by.same) ∙ by.is.state, ap (λ (r : Ran). r.output) (sym by.same) ∙ by.is.output);
+          (ap (λ (r : Ran). r.state) (sym by.same) ∙ by.is.state, ap (λ (r : Ran). r.output) (sym by.same) ∙ by.is.output, ap (λ (r : Ran). length r.accesses) (sym by.same) ∙ by.is.count);
       retired = stands.retired;
-      printable = stands.printable;
+      told = stands.told;
+      few = stands.few;
     }
 
 pub Closed-taken : (image : ImageView) (model : Model) (taken : List Access) (old new : MachineView) (a : Access) → TakesFirst old new a → Closed image model taken old → Closed image model (taken ++ a ∷ []) new
@@ -184,5 +185,6 @@ Closed-taken image model taken old new a takes closed =
           (subst (λ (cores : List CoreView). Fit image model (map (λ (c : CoreView). c.retired) cores) (order_so_far taken old) closed.runs) (sym takes.cores) closed.fits);
       are_runs = λ p c ran at. closed.are_runs p c ran (ap (λ (cores : List CoreView). slice_get cores p) (sym takes.cores) ∙ at);
       retired = AreRetired-taken old new a takes closed.retired;
-      printable = λ j e at. closed.printable j e (ap (λ (order : List Access). slice_get order j) (sym same) ∙ at);
+      told = λ j e at. closed.told j e (ap (λ (order : List Access). slice_get order j) (sym same) ∙ at);
+      few = few_taken taken old new a takes closed.few;
     }

@@ -1,7 +1,8 @@
 -- A cycle keeps what stands, and puts its accesses behind all others.
-use Rattle.std.proofs.Common.{◌≡◌, ◌++◌, ◌&&◌, not, ℕ, suc, Bool, true, false, if◌then◌else◌, List, [], ◌∷◌, length, map, None, Some, slice_get, refl, sym, ap, subst, ◌∙◌, append_assoc}
+use Rattle.std.proofs.Common.{◌≡◌, ◌≤◌, ◌+◌, ◌++◌, ◌&&◌, not, ℕ, suc, Bool, true, false, if◌then◌else◌, List, [], ◌∷◌, length, map, None, Some, slice_get, refl, sym, ap, subst, ◌∙◌, append_assoc, arith}
 use Rattle.std.proofs.lemmas.Bool.{and_parts}
-use Rattle.std.proofs.lemmas.List.{map-append}
+use Rattle.std.proofs.lemmas.List.{length-append, length-map, map-append}
+use Rattle.std.proofs.lemmas.List.Sums.{sum_by-cons}
 use Rattle.std.proofs.lemmas.List.Elements.{All-append, All-nil, All-cons}
 use Rattle.rsim_base.specs.declared.memory.Access.{Access}
 use Rattle.rsim_base.specs.declared.memory.Model.{Model}
@@ -12,6 +13,9 @@ use Rattle.order_log.specs.Log.{Place, placed, after_pop, first_final}
 use Rattle.sparc_meaning.specs.Arch.{IsSound, is_running}
 use Rattle.sparc_meaning.specs.Run.{accesses_of}
 use Rattle.sparc_meaning.specs.Stepped.{Stepped}
+use Rattle.sparc_meaning.specs.declared.acts.Act.{Act}
+use Rattle.sparc_meaning.specs.declared.acts.Act.TheVariants.{Nothing, Load, Store, Atomic, Fence, Out, End as Ended}
+use Rattle.cycle_loop.specs.Answers.{all_retired}
 use Rattle.cycle_loop.specs.Kept.{AreSound, HasNumbers, HaveNumbers, IsKept}
 use Rattle.cycle_loop.specs.Machine.{At, CoreCycle, CoreView, MachineView, Turned, after_step, bytes_after, core_after, lacks_line, next_step, turn, turns, with_taken}
 use Rattle.cycle_loop.specs.Stands.{Stands, order_so_far}
@@ -100,20 +104,66 @@ turns_stand image model v taken p done (c ∷ cs) log bytes place sound numbers 
         IsSound x.core.arch → HaveNumbers x.log → Stand image model (taken ++ map (λ (y : Place). y.access) x.log) (done ++ x.core ∷ cs) x.bytes) (sym place)
         (λ sound_k numbers_k. turn_stands image model taken done c cs log bytes b (λ e. runs_where image v p c bytes (is ∙ e)) sound_k numbers_k stand) sound numbers
 
+-- ---- no more accesses than steps
+
+accesses_of-few : (p i : ℕ) (act : Act) → length (accesses_of p i act) ≤ 1
+accesses_of-few p i (Load addr n loaded) = omega arith
+accesses_of-few p i (Store addr n value) = omega arith
+accesses_of-few p i (Atomic addr n loaded value) = omega arith
+accesses_of-few p i Nothing = omega arith
+accesses_of-few p i (Fence mask) = omega arith
+accesses_of-few p i (Out spoken) = omega arith
+accesses_of-few p i Ended = omega arith
+
+turn_by-few : (b : Bool) (p : ℕ) (s : Stepped) (x : At) → length (turn_by b p s x).log + x.core.retired ≤ length x.log + (turn_by b p s x).core.retired
+turn_by-few false p s x = omega arith
+turn_by-few true p s x =
+    let made = accesses_of p x.core.accesses s.act in
+    let places = length-append x.log (map (λ a. placed a true) made) in
+    let same = length-map made (λ a. placed a true) in
+    let one = accesses_of-few p x.core.accesses s.act in
+    omega arith
+
+turns_few : (image : ImageView) (v : StoreView) (p : ℕ) (cs : List CoreView) (log : List Place) (bytes : ℕ → ℕ) → let t = turns image v p cs log bytes in length t.log + all_retired cs ≤ length log + all_retired t.cores
+turns_few image v p [] log bytes = omega arith
+turns_few image v p (c ∷ cs) log bytes =
+    let x0 : At = record { core = c; log = log; bytes = bytes } in
+    let x = turn image v p x0 in
+    let t = turns image v (suc p) cs x.log x.bytes in
+    let here : length x.log + c.retired ≤ length log + x.core.retired = turn_by-few (is_running c.arch.end && not (lacks_line v p (next_step image bytes c.arch).act)) p (next_step image bytes c.arch) x0 in
+    let behind : length t.log + all_retired cs ≤ length x.log + all_retired t.cores = turns_few image v (suc p) cs x.log x.bytes in
+    let old : all_retired (c ∷ cs) ≡ c.retired + all_retired cs = sum_by-cons (λ (d : CoreView). d.retired) c cs in
+    let new : all_retired (x.core ∷ t.cores) ≡ x.core.retired + all_retired t.cores = sum_by-cons (λ (d : CoreView). d.retired) x.core t.cores in
+    omega arith
+
+length_so_far : (taken : List Access) (m : MachineView) → length (order_so_far taken m) ≡ length taken + length m.log
+length_so_far taken m = length-append taken (map (λ (x : Place). x.access) m.log) ∙ ap (λ n. length taken + n) (length-map m.log (λ (x : Place). x.access))
+
+few_after : (image : ImageView) (taken : List Access) (old new : MachineView) → CoreCycle image old new → length (order_so_far taken old) ≤ all_retired old.cores → length (order_so_far taken new) ≤ all_retired new.cores
+few_after image taken old new cycle few =
+    let t = turns image cycle.ticked 0 old.cores old.log cycle.ticked.bytes in
+    let more : length t.log + all_retired old.cores ≤ length old.log + all_retired t.cores = turns_few image cycle.ticked 0 old.cores old.log cycle.ticked.bytes in
+    let before = length_so_far taken old in
+    let now = length_so_far taken new in
+    let log : length new.log ≡ length t.log = ap length cycle.log in
+    let cores : all_retired new.cores ≡ all_retired t.cores = ap all_retired cycle.cores in
+    omega arith
+
 -- ---- all that stands
 
 pub Stands-parts : (image : ImageView) (model : Model) (taken : List Access) (m : MachineView) → Stands image model taken m → Stand image model (order_so_far taken m) m.cores m.store.bytes
 Stands-parts image model taken m stands = record {
   runs = stands.runs;
-  text = record { nodes = stands.nodes; printable = stands.printable; explains = stands.explains; memory = record { written = stands.memory; small = stands.bytes } };
+  text = record { nodes = stands.nodes; told = stands.told; explains = stands.explains; memory = record { written = stands.memory; small = stands.bytes } };
 }
 
-pub Stands-from : (image : ImageView) (model : Model) (taken : List Access) (m : MachineView) → AreRetired m.log → Stand image model (order_so_far taken m) m.cores m.store.bytes → Stands image model taken m
-Stands-from image model taken m retired stand = record {
+pub Stands-from : (image : ImageView) (model : Model) (taken : List Access) (m : MachineView) → AreRetired m.log → length (order_so_far taken m) ≤ all_retired m.cores → Stand image model (order_so_far taken m) m.cores m.store.bytes → Stands image model taken m
+Stands-from image model taken m retired few stand = record {
   runs = stand.runs;
   nodes = stand.text.nodes;
   retired = retired;
-  printable = stand.text.printable;
+  told = stand.text.told;
+  few = few;
   explains = stand.text.explains;
   memory = stand.text.memory.written;
   bytes = stand.text.memory.small;
@@ -147,7 +197,7 @@ Stands-cycle image model taken old new cycle kept stands =
     subst (λ (cores : List CoreView). Stand image model (taken ++ map (λ (y : Place). y.access) t.log) cores t.bytes) (sym cycle.cores) turned in
     let with_bytes : Stand image model (taken ++ map (λ (y : Place). y.access) t.log) new.cores new.store.bytes =
     subst (Stand image model (taken ++ map (λ (y : Place). y.access) t.log) new.cores) (sym bytes) with_cores in
-    Stands-from image model taken new retired
+    Stands-from image model taken new retired (few_after image taken old new cycle stands.few)
     (subst (λ (log : List Place). Stand image model (taken ++ map (λ (y : Place). y.access) log) new.cores new.store.bytes) (sym cycle.log) with_bytes)
 
 -- ---- what stands before the log stays there
@@ -228,10 +278,16 @@ AreRetired-taken old new a takes all =
     let was = was_first old.log a takes.taken in
     subst AreRetired (sym takes.log) (AreRetired-behind was.first (after_pop old.log) (subst AreRetired was.log_is all))
 
+pub few_taken : (taken : List Access) (old new : MachineView) (a : Access) → TakesFirst old new a → length (order_so_far taken old) ≤ all_retired old.cores → length (order_so_far (taken ++ a ∷ []) new) ≤ all_retired new.cores
+few_taken taken old new a takes few =
+    let order : length (order_so_far (taken ++ a ∷ []) new) ≡ length (order_so_far taken old) = ap length (order_so_far-taken taken old new a takes) in
+    let cores : all_retired new.cores ≡ all_retired old.cores = ap all_retired takes.cores in
+    omega arith
+
 pub Stands-taken : (image : ImageView) (model : Model) (taken : List Access) (old new : MachineView) (a : Access) → TakesFirst old new a → Stands image model taken old → Stands image model (taken ++ a ∷ []) new
 Stands-taken image model taken old new a takes stands =
     let before = Stands-parts image model taken old stands in
     let with_cores : Stand image model (order_so_far taken old) new.cores old.store.bytes = subst (λ (cores : List CoreView). Stand image model (order_so_far taken old) cores old.store.bytes) (sym takes.cores) before in
     let with_bytes : Stand image model (order_so_far taken old) new.cores new.store.bytes = subst (Stand image model (order_so_far taken old) new.cores) (sym takes.bytes) with_cores in
-    Stands-from image model (taken ++ a ∷ []) new (AreRetired-taken old new a takes stands.retired)
+    Stands-from image model (taken ++ a ∷ []) new (AreRetired-taken old new a takes stands.retired) (few_taken taken old new a takes stands.few)
     (subst (λ (order : List Access). Stand image model order new.cores new.store.bytes) (sym (order_so_far-taken taken old new a takes)) with_bytes)

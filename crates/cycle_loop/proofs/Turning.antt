@@ -6,7 +6,6 @@ use Rattle.rsim_base.specs.Made.{Fences, Made}
 use Rattle.rsim_base.specs.declared.memory.Access.{Access}
 use Rattle.rsim_base.specs.declared.memory.Model.{Model}
 use Rattle.elf64_load.specs.Image.{ImageView}
-use Rattle.order_certificate.specs.OrderText.{IsPrintable}
 use Rattle.order_checker.specs.Faults.{writes}
 use Rattle.order_checker.specs.Values.{Explains, stored_byte}
 use Rattle.sparc_meaning.specs.declared.acts.Act.{Act}
@@ -16,7 +15,7 @@ use Rattle.sparc_meaning.specs.Step.{step}
 use Rattle.sparc_meaning.specs.Wants.{wanted}
 use Rattle.cycle_loop.specs.Kept.{HasNumbers}
 use Rattle.cycle_loop.specs.Machine.{CoreView, bytes_after, core_after, next_step, value_found}
-use Rattle.cycle_loop.specs.Stands.{IsRunOf}
+use Rattle.cycle_loop.specs.Stands.{IsRunOf, IsTold}
 use Rattle.cycle_loop.proofs.Adding.{Adds, IsMemory, adds, next_step-act}
 use Rattle.cycle_loop.proofs.Explained.{explains_more}
 use Rattle.cycle_loop.proofs.Listing.{IsListed, IsListed-earlier, IsListed-more, IsListed-other}
@@ -29,7 +28,7 @@ use Rattle.cycle_loop.proofs.Written.{written_more}
 -- the accesses of n processors, whose loads are explained, and memory after them
 pub record IsText (image : ImageView) (n : ℕ) (order : List Access) (bytes : ℕ → ℕ) : Type 0 where
   pub nodes : (j : ℕ) (e : Access) → slice_get order j ≡ Some e → e.node.0 < n
-  pub printable : (j : ℕ) (e : Access) → slice_get order j ≡ Some e → IsPrintable e
+  pub told : (j : ℕ) (e : Access) → slice_get order j ≡ Some e → IsTold e
   pub explains : Explains image order
   pub memory : IsMemory image order bytes
 
@@ -42,8 +41,8 @@ IsText-more : (image : ImageView) (n : ℕ) (order : List Access) (bytes after_i
     ((j : ℕ) (f : Access) → slice_get order j ≡ Some f → f.node.0 ≡ p → f.index < i) → Adds image order bytes after_it p i e → IsText image n (order ++ e ∷ []) after_it
 IsText-more image n order bytes after_it p i e text among earlier a = record {
   nodes = λ j f at. ⊎_elim (text.nodes j f) (λ last. subst (λ (q : ℕ). q < n) (sym (ap (λ (x : Access). x.node.0) last.1 ∙ a.node)) among) (slice_get_more order e j f at);
-  printable = λ j f at. ⊎_elim (text.printable j f) (λ last. subst IsPrintable (sym last.1) a.printable) (slice_get_more order e j f at);
-  explains = explains_more image order e (record { fits = λ j f at. (text.printable j f at).addr })
+  told = λ j f at. ⊎_elim (text.told j f) (λ last. subst IsTold (sym last.1) a.told) (slice_get_more order e j f at);
+  explains = explains_more image order e (record { fits = λ j f at. (text.told j f at).printable.addr })
       (record { earlier = λ j f at own. let low = earlier j f at (own ∙ a.node) in let is = a.index in omega arith }) text.explains a.value;
   memory = record {
     written = λ b fits. a.after_it b fits ∙ ap (λ kept. if writes b (Some e) then stored_byte e b else kept) (text.memory.written b fits) ∙ sym (written_more image order e b);

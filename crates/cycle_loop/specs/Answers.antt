@@ -14,3 +14,7 @@ IsOf cores p Q = IfSome (slice_get cores p) Q
 -- retired stores that are not performed
 abbrev pub waiting_stores : List CoreView → ℕ
 waiting_stores cores = sum_by (λ c. length c.waiting) cores
+
+-- the steps that they have retired together
+abbrev pub all_retired : List CoreView → ℕ
+all_retired cores = sum_by (λ c. c.retired) cores

@@ -1,7 +1,8 @@
 -- What is true of a machine between two cycles, and of one that is closed. `taken` are the accesses that were taken out of
 -- its log, in order.
-use Rattle.std.specs.Prelude.{◌≡◌, ◌⊎◌, ℕ, ◌<◌, ◌^◌, true, List, [], ◌++◌, map, length, slice_get, Some}
+use Rattle.std.specs.Prelude.{◌≡◌, ◌⊎◌, ℕ, ◌<◌, ◌≤◌, ◌^◌, true, false, List, [], ◌++◌, map, length, slice_get, Some}
 use Rattle.std.specs.List.{All, Contains}
+use Rattle.rsim_base.specs.Accesses.{loads, stores}
 use Rattle.rsim_base.specs.Made.{Made}
 use Rattle.rsim_base.specs.declared.memory.Access.{Access}
 use Rattle.rsim_base.specs.declared.memory.Model.{Model}
@@ -13,11 +14,18 @@ use Rattle.order_checker.specs.Values.{Explains}
 use Rattle.order_checker.specs.Walking.{written_byte}
 use Rattle.sparc_meaning.specs.Arch.{IsSound}
 use Rattle.sparc_meaning.specs.Run.{Ran, run}
+use Rattle.cycle_loop.specs.Answers.{all_retired}
 use Rattle.cycle_loop.specs.Machine.{CoreView, MachineView}
 
 -- the order so far: what was taken out, and then what the log has
 abbrev pub order_so_far : List Access → MachineView → List Access
 order_so_far taken m = taken ++ map (λ x. x.access) m.log
+
+-- a line of an order can tell the access: its numbers fit there, and the value that its kind lacks is 0
+pub record IsTold (e : Access) : Type 0 where
+  pub printable : IsPrintable e
+  pub loaded : loads e.kind ≡ false → e.loaded ≡ 0
+  pub stored : stores e.kind ≡ false → e.stored ≡ 0
 
 -- by the number of the access, the values that a program has loaded; the value of one that loads nothing is not used
 abbrev pub loaded_values : List Made → List ℕ
@@ -48,7 +56,9 @@ pub record Stands (image : ImageView) (model : Model) (taken : List Access) (m :
   pub runs : (p : ℕ) (c : CoreView) → slice_get m.cores p ≡ Some c → IsRunOf image model (length m.cores) (order_so_far taken m) p c
   pub nodes : (j : ℕ) (e : Access) → slice_get (order_so_far taken m) j ≡ Some e → e.node.0 < length m.cores
   pub retired : All (λ x. x.retired ≡ true) m.log
-  pub printable : (j : ℕ) (e : Access) → slice_get (order_so_far taken m) j ≡ Some e → IsPrintable e
+  pub told : (j : ℕ) (e : Access) → slice_get (order_so_far taken m) j ≡ Some e → IsTold e
+  -- no more accesses than steps
+  pub few : length (order_so_far taken m) ≤ all_retired m.cores
   -- each loaded value is what its sources have written, and memory is what all have written
   pub explains : Explains image (order_so_far taken m)
   pub memory : (a : ℕ) → a < 2 ^ 64 → m.store.bytes a ≡ written_byte image (order_so_far taken m) (length (order_so_far taken m)) a
@@ -58,6 +68,7 @@ pub record Stands (image : ImageView) (model : Model) (taken : List Access) (m :
 pub record Closed (image : ImageView) (model : Model) (taken : List Access) (m : MachineView) : Type 0 where
   pub runs : List Ran
   pub fits : Fit image model (map (λ (c : CoreView). c.retired) m.cores) (order_so_far taken m) runs
-  pub are_runs : (p : ℕ) (c : CoreView) (ran : Ran) → slice_get m.cores p ≡ Some c → slice_get runs p ≡ Some ran → (ran.state ≡ c.arch) × (ran.output ≡ c.output)
+  pub are_runs : (p : ℕ) (c : CoreView) (ran : Ran) → slice_get m.cores p ≡ Some c → slice_get runs p ≡ Some ran → (ran.state ≡ c.arch) × (ran.output ≡ c.output) × (length ran.accesses ≡ c.accesses)
   pub retired : All (λ x. x.retired ≡ true) m.log
-  pub printable : (j : ℕ) (e : Access) → slice_get (order_so_far taken m) j ≡ Some e → IsPrintable e
+  pub told : (j : ℕ) (e : Access) → slice_get (order_so_far taken m) j ≡ Some e → IsTold e
+  pub few : length (order_so_far taken m) ≤ all_retired m.cores

@@ -9,12 +9,13 @@ ghost use Rattle.rsim_base.specs.declared.memory.Model.{Model as Consistency};
 ghost use Rattle.cycle_loop.specs.Machine.{CoreCycle, CoreView, with_taken};
 ghost use Rattle.cycle_loop.specs.Machines.{Serves, machine_view};
 ghost use Rattle.cycle_loop.specs.Kept.{AreSound};
-ghost use Rattle.cycle_loop.specs.Ready.{IsReady, IsReady-prop, views_of};
+ghost use Rattle.cycle_loop.specs.Ready.{AreCounted, IsReady, IsReady-prop, views_of};
 ghost use Rattle.cycle_loop.specs.Stands.{Closed, Stands};
 ghost use Rattle.cycle_loop.specs.Start.{AreBooted, IsAtStart};
 ghost use Rattle.cycle_loop.specs.Answers.{IsOf, have_ended, waiting_stores};
 ghost use Rattle.cycle_loop.specs.Waits.{StepsOrWaits};
 
+use crate::decoded::Decoded;
 use crate::processor::Processor;
 use crate::turns::{reserve_outputs, take_turns};
 use elf64_load::Image;
@@ -34,6 +35,7 @@ pub struct Machine<M: CoherentStore> {
     processors: Vec<Processor>,
     store: M,
     log: OrderLog,
+    decoded: Decoded,
     // The lines that left their nodes at the last tick: this machine does nothing about them.
     lost: LostList,
     cycles: u32,
@@ -66,6 +68,7 @@ impl<M: CoherentStore> Machine<M> {
         take_turns(
             &mut self.processors,
             &self.image,
+            &mut self.decoded,
             self.line_bytes,
             &mut self.store,
             &mut self.log,
@@ -142,6 +145,7 @@ impl<M: CoherentStore> Machine<M> {
     pub fn close(&mut self)
         ensures view { view_of M.meaning self.new ≡ view_of M.meaning self.old }
         ensures fits { (model : Consistency) (taken : List Access) → Stands self.old.image model taken (view_of M.meaning self.old) → Closed self.new.image model taken (view_of M.meaning self.new) }
+        ensures counted { AreCounted (view_of M.meaning self.new).cycles (view_of M.meaning self.new).cores }
         ensures image { self.new.image ≡ self.old.image }
         ensures closed { self.new.closed ≡ true }
     {
@@ -173,12 +177,14 @@ impl<M: CoherentStore + Drop> Machine<M> {
     {
         let processors = boot_all(alloc, &image, config.processors as u8)?;
         let log = OrderLog::make(alloc, &config)?;
+        let decoded = Decoded::make(alloc)?;
         Ok(Machine {
             image,
             line_bytes: u64::from(config.line),
             processors,
             store,
             log,
+            decoded,
             lost: LostList::new(),
             cycles: 0,
             closed: false,

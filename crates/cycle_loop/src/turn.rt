@@ -10,6 +10,7 @@ ghost use Rattle.cycle_loop.specs.Processors.{view_of};
 ghost use Rattle.cycle_loop.specs.Stores.{may_store as spec_may_store, may_store_by};
 ghost use Rattle.cycle_loop.specs.Turns.{MayUse, tried};
 
+use crate::decoded::Decoded;
 use crate::lines::{lacks_stored, lacks_wanted, perform, value_for};
 use crate::processor::Processor;
 use elf64_load::Image;
@@ -17,7 +18,7 @@ use memory_contracts::CoherentStore;
 use order_log::OrderLog;
 use rsim_base::Node;
 use sparc_decode::{Instr, Op};
-use sparc_meaning::{Arch, ArchPhase, instr_at, peek_at, step_at};
+use sparc_meaning::{Arch, ArchPhase, peek_at, step_at};
 
 impl Processor {
     /// Its turn. A line that it lacks it asks for, and stays as it is.
@@ -25,6 +26,7 @@ impl Processor {
         &mut self,
         p: Node,
         image: &Image,
+        decoded: &mut Decoded,
         line_bytes: u64,
         store: &mut M,
         log: &mut OrderLog,
@@ -46,7 +48,7 @@ impl Processor {
         if !self.arch.end.is_running() {
             return;
         }
-        let i = instr_at(image, self.arch.pc);
+        let i = decoded.instr_at(image, self.arch.pc);
         let want = peek_at(&self.arch, &i, image);
         if lacks_wanted(p, want, line_bytes, store) {
             return;

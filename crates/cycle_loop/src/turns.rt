@@ -4,6 +4,7 @@ ghost use Rattle.cycle_loop.specs.Kept.{AreSound, HaveNumbers};
 ghost use Rattle.cycle_loop.specs.Machine.{Turned, turns};
 ghost use Rattle.cycle_loop.specs.Ready.{AreCounted, HaveRoom, MayUseAll, views_of};
 
+use crate::decoded::Decoded;
 use crate::processor::Processor;
 use elf64_load::Image;
 use memory_contracts::CoherentStore;
@@ -25,6 +26,7 @@ pub(crate) fn reserve_outputs(processors: &mut Vec<Processor>) -> Result<(), NoM
 pub(crate) fn take_turns<M: CoherentStore>(
     processors: &mut Vec<Processor>,
     image: &Image,
+    decoded: &mut Decoded,
     line_bytes: u64,
     store: &mut M,
     log: &mut OrderLog,
@@ -43,6 +45,6 @@ pub(crate) fn take_turns<M: CoherentStore>(
 {
     for p in 0..processors.len() {
         let processor = &mut processors[p];
-        processor.turn(Node(p as u8), image, line_bytes, store, log);
+        processor.turn(Node(p as u8), image, decoded, line_bytes, store, log);
     }
 }

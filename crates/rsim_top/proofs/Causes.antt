@@ -1,5 +1,5 @@
 -- That each cause of a run's answer is always answered, and that where nothing is wrong and nothing fails nothing is refused.
-use Rattle.std.proofs.Common.{◌≡◌, ◌⊎◌, ◌*◌, ◌==◌, ℕ, nat_le, not, Bool, true, false, IsTrue, List, Option, Some, None, option_map, Result, Ok, Err, ⊎_elim, inl, inr, subst, refl, sym, ap}
+use Rattle.std.proofs.Common.{◌≡◌, ◌⊎◌, ◌*◌, ℕ, nat_le, not, Bool, true, false, IsTrue, List, Option, Some, None, option_map, Result, Ok, Err, ⊎_elim, inl, inr, subst, refl, sym, ap}
 use Rattle.std.specs.Option.{option_or}
 use Rattle.machine_config.specs.declared.fault.ConfigFault.{ConfigFault}
 use Rattle.machine_config.specs.Faults.{first_fault as config_fault, given}
@@ -59,19 +59,18 @@ done old new want text exe (Err refusal.Unbuilt) shelf sink says = absurd says
 done old new want text exe (Err (refusal.Elf fault)) shelf sink says = absurd says
 
 -- what is refused of a configuration and an executable is no failed read
-no_read : (config : Option ConfigFault) (long several : Bool) (elf : Option ElfFault) (which : File) →
-    option_or (option_or (option_map refusal.Config config) (option_or (when long refusal.TooLong) (when several refusal.Unbuilt))) (option_map refusal.Elf elf) ≡ Some (refusal.Read which) → ⊥
-no_read (Some fault) long several elf which is = absurd cc
-no_read None true several elf which is = absurd cc
-no_read None false true elf which is = absurd cc
-no_read None false false (Some fault) which is = absurd cc
-no_read None false false None which is = absurd cc
+no_read : (config : Option ConfigFault) (long : Bool) (elf : Option ElfFault) (which : File) →
+    option_or (option_or (option_map refusal.Config config) (when long refusal.TooLong)) (option_map refusal.Elf elf) ≡ Some (refusal.Read which) → ⊥
+no_read (Some fault) long elf which is = absurd cc
+no_read None true elf which is = absurd cc
+no_read None false (Some fault) which is = absurd cc
+no_read None false None which is = absurd cc
 
 settled : (old new : Outside) (want : RunAsked) (exe : List ℕ) → IsSettled (AnswersRun old new want) old new (run_files want.cycles want.config exe)
 settled old new want exe = record {
   reads = λ text bytes which says. says;
   done = λ text bytes result. done old new want text bytes result;
-  refuses = λ text bytes which. no_read (config_fault text) (not (nat_le (want.cycles * given text processors * given text retire_width) 8000000)) (not (given text processors == 1)) (elf_fault bytes) which;
+  refuses = λ text bytes which. no_read (config_fault text) (not (nat_le (want.cycles * given text processors * given text retire_width) 8000000)) (elf_fault bytes) which;
   apart = λ same. absurd cc;
 }
 
@@ -87,18 +86,17 @@ failed words old new which answer shelf sink = ⊎_elim (λ short. let no = shor
     by_run Config shelf sink want text exe says = says
     by_run Exe shelf sink want text exe says = says
 
-    no_write : (config : Option ConfigFault) (long several : Bool) (elf : Option ElfFault) →
-        option_or (option_or (option_map refusal.Config config) (option_or (when long refusal.TooLong) (when several refusal.Unbuilt))) (option_map refusal.Elf elf) ≡ Some (refusal.Write which) → ⊥
-    no_write (Some fault) long several elf is = absurd cc
-    no_write None true several elf is = absurd cc
-    no_write None false true elf is = absurd cc
-    no_write None false false (Some fault) is = absurd cc
-    no_write None false false None is = absurd cc
+    no_write : (config : Option ConfigFault) (long : Bool) (elf : Option ElfFault) →
+        option_or (option_or (option_map refusal.Config config) (when long refusal.TooLong)) (option_map refusal.Elf elf) ≡ Some (refusal.Write which) → ⊥
+    no_write (Some fault) long elf is = absurd cc
+    no_write None true elf is = absurd cc
+    no_write None false (Some fault) is = absurd cc
+    no_write None false None is = absurd cc
 
     by_executable : (want : RunAsked) (executable : AskedExecutable) → AnswersExecutable old new want executable (Err (refusal.Write which)) → ⊥
     by_executable want (generated seed) says = let no = says.0 in absurd cc
     by_executable want (file name) says = failed_write (AnswersRun old new want) old new (run_files want.cycles want.config name) which
-        (λ text bytes. no_write (config_fault text) (not (nat_le (want.cycles * given text processors * given text retire_width) 8000000)) (not (given text processors == 1)) (elf_fault bytes))
+        (λ text bytes. no_write (config_fault text) (not (nat_le (want.cycles * given text processors * given text retire_width) 8000000)) (elf_fault bytes))
         (λ text bytes. by_run which shelf sink want text bytes) says
 
     by_words : (asked : Result RunAsked WordsFault) → AnswersWords old new asked (Err (refusal.Write which)) → ⊥

@@ -10,7 +10,8 @@ use Rattle.order_checker.specs.declared.verdict.Accepted.{Accepted as Told}
 use Rattle.order_checker.specs.declared.verdict.Rejected.{Rejected as Fault}
 use Rattle.order_checker.specs.declared.verdict.Rejected.TheVariants as fault
 use Rattle.sparc_meaning.specs.Run.{Ran}
-use Rattle.rsim_top.specs.CheckAnswers.{IsAccepted, IsRejected, IsJudgement, verdict_of}
+use Rattle.rsim_top.specs.Accepted.{IsAccepted}
+use Rattle.rsim_top.specs.CheckAnswers.{IsRejected, IsJudgement, verdict_of}
 use Rattle.rsim_top.specs.CheckParts.{ChecksOrder, outcome_of}
 use Rattle.rsim_top.specs.declared.verdict.Verdict.TheVariants.{Accepted, Rejected}
 

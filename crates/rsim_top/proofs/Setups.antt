@@ -1,11 +1,11 @@
 -- What a text's settings refuse, from the settings that were read.
-use Rattle.std.proofs.Common.{◌≡◌, ℕ, ◌==◌, true, false, Ok, Some, None, refl, sym, arith}
+use Rattle.std.proofs.Common.{◌≡◌, ℕ, true, false, Ok, Some, None, refl, sym, arith}
 use Rattle.machine_config.specs.declared.config.Config.{Config}
 use Rattle.machine_config.specs.Allowed.{is_short}
 use Rattle.machine_config.specs.Faults.{first_fault, given, IsNamedBy, Reads}
 use Rattle.machine_config.specs.Keys.{keys, processors, retire_width}
 use Rattle.std.specs.Prelude.{List}
-use Rattle.rsim_top.specs.declared.refusal.Refusal.TheVariants.{TooLong, Unbuilt}
+use Rattle.rsim_top.specs.declared.refusal.Refusal.TheVariants.{TooLong}
 use Rattle.rsim_top.specs.Steps.{setup_refusal}
 
 processors-named : (text : List ℕ) (config : Config) → IsNamedBy text config → given text processors ≡ config.processors
@@ -19,8 +19,5 @@ retire_width-named text config named = sym (named 16 processors (omega arith))
 pub setup_refusal-too_long : (cycles : ℕ) (text : List ℕ) (config : Config) → Reads text (Ok config) → is_short config cycles ≡ false → setup_refusal cycles text ≡ Some TooLong
 setup_refusal-too_long cycles text config read long = rw (read.0, processors-named text config read.1, retire_width-named text config read.1, long) refl
 
-pub setup_refusal-several : (cycles : ℕ) (text : List ℕ) (config : Config) → Reads text (Ok config) → is_short config cycles ≡ true → (config.processors == 1) ≡ false → setup_refusal cycles text ≡ Some Unbuilt
-setup_refusal-several cycles text config read short several = rw (read.0, processors-named text config read.1, retire_width-named text config read.1, short, several) refl
-
-pub setup_refusal-none : (cycles : ℕ) (text : List ℕ) (config : Config) → Reads text (Ok config) → is_short config cycles ≡ true → (config.processors == 1) ≡ true → setup_refusal cycles text ≡ None
-setup_refusal-none cycles text config read short one = rw (read.0, processors-named text config read.1, retire_width-named text config read.1, short, one) refl
+pub setup_refusal-none : (cycles : ℕ) (text : List ℕ) (config : Config) → Reads text (Ok config) → is_short config cycles ≡ true → setup_refusal cycles text ≡ None
+setup_refusal-none cycles text config read short = rw (read.0, processors-named text config read.1, retire_width-named text config read.1, short) refl

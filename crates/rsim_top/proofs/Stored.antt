@@ -1,5 +1,5 @@
 -- What stands after a file was made and written in pieces, or not whole, and after some of a stream was.
-use Rattle.std.proofs.Common.{◌≡◌, ℕ, List, [], ◌++◌, Option, Some, None, Result, Ok, Err, Bool, true, false, cond, take, drop, option_map, unwrap_or, OnOk, OnErr, refl, sym, ap, ◌∙◌, inr, ⊎_elim, append-nil, append_assoc, subst, nat_cmp}
+use Rattle.std.proofs.Common.{◌≡◌, ℕ, List, [], ◌++◌, Option, Some, None, Result, Ok, Err, Bool, true, false, cond, take, drop, option_map, unwrap_or, OnOk, OnErr, refl, sym, ap, ◌∙◌, inl, inr, ⊎_elim, append-nil, append_assoc, subst, nat_cmp}
 use Rattle.std.proofs.lemmas.List.{take-append-drop}
 use Rattle.std.specs.Ordering.{eq_by_cmp}
 use Rattle.std.specs.Cmp.{eq_by_cmp_equiv}
@@ -9,6 +9,7 @@ use Rattle.rsim_io.specs.Files.{Files, with_more, Appends}
 use Rattle.rsim_io.specs.Written.{Puts}
 use Rattle.rsim_io.specs.declared.shelf.StoreFault.{StoreFault}
 use Rattle.rsim_top.specs.Outside.{IsPrefix, HasFile, HasPrefixOfFile, HasPrefixWritten}
+use Rattle.rsim_top.specs.Pieces.{IsSoFar}
 
 -- the bytes of a name that was just set
 get-insert_same : (files : Files) (name bytes : List ℕ) → get (insert files name bytes) name ≡ Some bytes
@@ -40,12 +41,6 @@ grown (Some files) name before bytes = ap Some (with_more-insert files name befo
 
 -- ---- a file that is written in pieces
 
--- the file has so much of the whole, and a piece holds what follows
-pub record IsSoFar (name so_far : List ℕ) (old now : Option Files) (piece : List ℕ) : Type 0 where
-  pub done : List ℕ
-  pub file : HasFile name done old now
-  pub follows : done ++ piece ≡ so_far
-
 pub IsSoFar-more : (old now : Option Files) (name so_far piece more : List ℕ) → IsSoFar name so_far old now piece → IsSoFar name (so_far ++ more) old now (piece ++ more)
 IsSoFar-more old now name so_far piece more is =
     record { done = is.done; file = is.file; follows = sym (append_assoc is.done piece more) ∙ ap (λ p. p ++ more) is.follows }
@@ -71,6 +66,11 @@ part_of_whole done rest so_far more bytes follows whole = (rest ++ more, sym who
 
 pub HasPrefixOfFile-so_far : (old now : Option Files) (name so_far more bytes piece : List ℕ) → IsSoFar name so_far old now piece → so_far ++ more ≡ bytes → HasPrefixOfFile name bytes old now
 HasPrefixOfFile-so_far old now name so_far more bytes piece is whole = inr (is.done, part_of_whole is.done piece so_far more bytes is.follows whole, is.file)
+
+-- what is a part of a text is a part of a longer one
+pub HasPrefixOfFile-longer : (name bytes more : List ℕ) (old new : Option Files) → HasPrefixOfFile name bytes old new → HasPrefixOfFile name (bytes ++ more) old new
+HasPrefixOfFile-longer name bytes more old new part =
+    ⊎_elim inl (λ (done, (rest, whole), file). inr (done, (rest ++ more, ap (λ b. b ++ more) whole ∙ append_assoc done rest more), file)) part
 
 pub HasPrefixOfFile-from_failed : (old now new : Option Files) (name so_far more bytes piece : List ℕ) (fault : StoreFault) → IsSoFar name so_far old now piece → so_far ++ more ≡ bytes → Appends now name piece (Err fault) new → HasPrefixOfFile name bytes old new
 HasPrefixOfFile-from_failed old now new name so_far more bytes piece fault is whole left =

@@ -3,12 +3,15 @@
 use Rattle.std.specs.Prelude.{◌≡◌, ◌⊎◌, List, Result, Ok, Err, ℕ}
 use Rattle.command_words.specs.declared.fault.WordsFault.{WordsFault}
 use Rattle.command_words.specs.Asked.{RunAsked, asked_of_run, AskedExecutable, file, generated}
+use Rattle.cycle_loop.specs.Answers.{all_retired}
+use Rattle.order_checker.specs.Checked.{accepted as accepted_of}
 use Rattle.rsim_top.specs.declared.command.Reported.{Reported}
 use Rattle.rsim_top.specs.declared.refusal.File.TheVariants as which
 use Rattle.rsim_top.specs.declared.refusal.Refusal.{Refusal}
 use Rattle.rsim_top.specs.declared.refusal.Refusal.TheVariants.{Words, Unbuilt, Write, Memory}
+use Rattle.rsim_top.specs.Accepted.{IsAccepted}
 use Rattle.rsim_top.specs.AskedRun.{AskedRun}
-use Rattle.rsim_top.specs.Machine.{order_of, report_of}
+use Rattle.rsim_top.specs.Machine.{certificate_of, order_of, report_of}
 use Rattle.rsim_top.specs.Outside.{Outside, IsUntouched, HasFile, HasPrefixOfFile, HasWritten, HasPrefixWritten, MayFail}
 use Rattle.rsim_top.specs.Steps.{run_files}
 use Rattle.rsim_top.specs.TwoFiles.{LacksMemory, AnswersFiles}
@@ -21,21 +24,23 @@ Answer = Result Reported Refusal
 -- the run was made, its order is the file of that name, and its report was written
 pub record Succeeds (old new : Outside) (want : RunAsked) (text exe : List ℕ) (reported : Reported) : Type 0 where
   pub made : AskedRun want.cycles text exe
-  pub steps : reported ≡ record { cycles = made.steps; retired = made.steps }
-  pub order : HasFile want.order (order_of made.config.model made.order made.steps) old.shelf.files new.shelf.files
-  pub report : HasWritten (report_of made.steps made.ran.state.end made.ran.output) old.sink.written new.sink.written
+  pub counts : reported ≡ record { cycles = made.machine.cycles; retired = all_retired made.machine.cores }
+  pub order : HasFile want.order (order_of made.config.model made.machine) old.shelf.files new.shelf.files
+  pub report : HasWritten (report_of made.machine) old.sink.written new.sink.written
+  -- `rsimcheck` accepts the order
+  pub accepted : IsAccepted made.image (order_of made.config.model made.machine) (accepted_of (certificate_of made.config.model made.machine))
 
 -- the order was not written whole, and nothing was written of the report
 pub record StopsAtOrder (old new : Outside) (want : RunAsked) (text exe : List ℕ) : Type 0 where
   pub made : AskedRun want.cycles text exe
-  pub order : HasPrefixOfFile want.order (order_of made.config.model made.order made.steps) old.shelf.files new.shelf.files
+  pub order : HasPrefixOfFile want.order (order_of made.config.model made.machine) old.shelf.files new.shelf.files
   pub report : new.sink.written ≡ old.sink.written
 
 -- the order is whole, and a prefix of the report was written
 pub record StopsAtReport (old new : Outside) (want : RunAsked) (text exe : List ℕ) : Type 0 where
   pub made : AskedRun want.cycles text exe
-  pub order : HasFile want.order (order_of made.config.model made.order made.steps) old.shelf.files new.shelf.files
-  pub report : HasPrefixWritten (report_of made.steps made.ran.state.end made.ran.output) old.sink.written new.sink.written
+  pub order : HasFile want.order (order_of made.config.model made.machine) old.shelf.files new.shelf.files
+  pub report : HasPrefixWritten (report_of made.machine) old.sink.written new.sink.written
 
 -- ---- the answers
 

@@ -19,6 +19,7 @@ use Rattle.rsim_top.specs.declared.refusal.Refusal.{Refusal}
 use Rattle.rsim_top.specs.declared.refusal.Refusal.TheVariants.{Words, Unbuilt, Write, Memory}
 use Rattle.rsim_top.specs.declared.verdict.Verdict.{Verdict}
 use Rattle.rsim_top.specs.declared.verdict.Verdict.TheVariants.{Accepted, Rejected}
+use Rattle.rsim_top.specs.Accepted.{IsAccepted}
 use Rattle.rsim_top.specs.Outside.{Outside, IsUntouched, HasWritten, HasPrefixWritten, MayFail}
 use Rattle.rsim_top.specs.Steps.{check_files}
 use Rattle.rsim_top.specs.TwoFiles.{LacksMemory, AnswersFiles}
@@ -28,15 +29,6 @@ abbrev pub CheckAnswer : Type 0
 CheckAnswer = Result Verdict Refusal
 
 -- ---- verdicts
-
--- the text is that of an order that fits the image, and this is what is told of it
-pub record IsAccepted (image : ImageView) (text : List ℕ) (told : Told) : Type 0 where
-  pub order : CertificateView
-  pub is : IsCertificate order
-  pub text_is : text ≡ text_of order
-  pub told_is : told ≡ accepted order
-  pub runs : List Ran
-  pub fits : Fit image order.model order.counts order.lines runs
 
 -- the text tells no order, or this is the first fault of the one that it tells; want of memory is none
 pub record IsRejected (image : ImageView) (text : List ℕ) (why : Fault) : Type 0 where

@@ -1,3 +1,4 @@
+pub mod Accepted
 pub mod Answers
 pub mod AskedRun
 pub mod Causes
@@ -6,12 +7,12 @@ pub mod CheckCauses
 pub mod CheckParts
 pub mod FileCauses
 pub mod Machine
-pub mod Memory
 pub mod Outside
 pub mod Parts
-pub mod Processor
+pub mod Pieces
 pub mod Refusals
 pub mod ReportText
+pub mod Run
 pub mod Steps
 pub mod TwoFiles
 pub mod VerdictText

@@ -1,16 +1,43 @@
--- The machine so far: one processor that makes one step in each cycle, its accesses in program order. What
--- it writes after so many steps.
-use Rattle.std.specs.Prelude.{ℕ, List, [], ◌∷◌, replicate}
+-- What is written of a machine that has run: its order, and its report.
+use Rattle.std.specs.Prelude.{ℕ, List, length, map}
 use Rattle.rsim_base.specs.declared.memory.Access.{Access}
 use Rattle.rsim_base.specs.declared.memory.Model.{Model}
 use Rattle.sparc_meaning.specs.declared.arch.End.{End}
-use Rattle.order_certificate.specs.OrderText.{certificate}
-use Rattle.rsim_top.specs.ReportText.{report}
+use Rattle.memory_contracts.specs.Flat.{store_of}
+use Rattle.memory_contracts.specs.FlatStores.{flat_of}
+use Rattle.memory_contracts.specs.declared.flat.FlatStore.{FlatStore}
+use Rattle.order_certificate.specs.Certificate.{CertificateView, text_of}
+use Rattle.cycle_loop.specs.Answers.{waiting_stores}
+use Rattle.cycle_loop.specs.Machine.{MachineView}
+use Rattle.cycle_loop.specs.MachineOf.{view_of}
+use Rattle.cycle_loop.specs.declared.machine.Machine.{Machine}
+use Rattle.rsim_top.specs.ReportText.{no_counts, report}
 
--- its order, which is one under each consistency model
-unfoldable pub order_of : Model → List Access → ℕ → List ℕ
-order_of model order steps = certificate model 1 order (steps ∷ [])
+-- a machine over a store without caches
+abbrev pub flat_view : {b : _} → Machine FlatStore b → MachineView
+flat_view m = view_of (λ (s : FlatStore). store_of (flat_of s)) m
 
--- its report, where it has ended so and put these bytes: no store waits, and nothing is counted
-unfoldable pub report_of : ℕ → End → List ℕ → List ℕ
-report_of steps how output = report steps (steps ∷ []) (how ∷ []) (output ∷ []) 0 (replicate 12 0)
+-- by processor: the retired steps, how it stands, and what it has put
+abbrev pub counts_of : MachineView → List ℕ
+counts_of v = map (λ c. c.retired) v.cores
+
+abbrev pub ends_of : MachineView → List End
+ends_of v = map (λ c. c.arch.end) v.cores
+
+abbrev pub outputs_of : MachineView → List (List ℕ)
+outputs_of v = map (λ c. c.output) v.cores
+
+-- the accesses of all, in their order
+abbrev pub accesses_of : MachineView → List Access
+accesses_of v = map (λ x. x.access) v.log
+
+abbrev pub certificate_of : Model → MachineView → CertificateView
+certificate_of model v = record { model = model; processors = length v.cores; lines = accesses_of v; counts = counts_of v }
+
+-- the text of its order under a model
+unfoldable pub order_of : Model → MachineView → List ℕ
+order_of model v = text_of (certificate_of model v)
+
+-- the text of its report: nothing is counted yet
+unfoldable pub report_of : MachineView → List ℕ
+report_of v = report v.cycles (counts_of v) (ends_of v) (outputs_of v) (waiting_stores v.cores) no_counts

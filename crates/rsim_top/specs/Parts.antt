@@ -1,20 +1,24 @@
 -- What each part of a command answers and leaves.
-use Rattle.std.specs.Prelude.{◌≡◌, ◌⊎◌, ◌≤◌, ℕ, List, Option, Some, None, Result, Ok, Err, Vec}
+use Rattle.std.specs.Prelude.{◌≡◌, ◌⊎◌, ◌≤◌, ℕ, true, List, Option, Some, None, Result, Ok, Err, Vec}
 use Rattle.rsim_io.specs.Files.{Files}
 use Rattle.command_words.specs.declared.read.RunWords.{RunWords}
 use Rattle.command_words.specs.Asked.{RunAsked}
 use Rattle.command_words.specs.Reading.{executable_of}
 use Rattle.machine_config.specs.declared.config.Config.{Config}
+use Rattle.machine_config.specs.Allowed.{IsAllowed, is_short}
 use Rattle.machine_config.specs.Faults.{Reads}
+use Rattle.memory_contracts.specs.declared.flat.FlatStore.{FlatStore}
+use Rattle.cycle_loop.specs.Machine.{MachineView}
+use Rattle.cycle_loop.specs.declared.machine.Machine.{Machine}
 use Rattle.elf64_load.specs.Image.{ImageView}
 use Rattle.elf64_load.specs.Faults.{Loads}
 use Rattle.rsim_top.specs.declared.refusal.File.{File}
 use Rattle.rsim_top.specs.declared.refusal.File.TheVariants as file
 use Rattle.rsim_top.specs.declared.refusal.Refusal.{Refusal}
 use Rattle.rsim_top.specs.declared.refusal.Refusal.TheVariants.{Write, Memory}
-use Rattle.rsim_top.specs.declared.processor.Processor.{Processor}
 use Rattle.rsim_top.specs.Outside.{Shelf, Sink, HasFile, HasPrefixOfFile, HasWritten, HasPrefixWritten, MayFail}
-use Rattle.rsim_top.specs.Processor.{IsOver}
+use Rattle.rsim_top.specs.Machine.{flat_view}
+use Rattle.rsim_top.specs.Run.{HasRun}
 use Rattle.rsim_top.specs.Steps.{setup_refusal, image_refusal}
 use Rattle.rsim_top.specs.TwoFiles.{IsFetched, fetch_refusal}
 
@@ -28,18 +32,27 @@ Fetches old new which limit name (Ok bytes) = IsFetched old new name (Some bytes
 Fetches old new which limit name (Err why) =
     (why ≡ Memory) ⊎ ((came : Option (List ℕ)) × IsFetched old new name came × (fetch_refusal which limit came ≡ Some why))
 
--- a text's settings, or why they are refused
+-- a text's settings, with which the run is short enough, or why they are refused
+pub record AreSettings (cycles : ℕ) (text : List ℕ) (config : Config) : Type 0 where
+  pub read : Reads text (Ok config)
+  pub allowed : IsAllowed config
+  pub short : is_short config cycles ≡ true
+  pub none : setup_refusal cycles text ≡ None
+
 abbrev pub SetsUp : ℕ → List ℕ → Result Config Refusal → Type 0
-SetsUp cycles text (Ok config) = Reads text (Ok config) × (setup_refusal cycles text ≡ None)
+SetsUp cycles text (Ok config) = AreSettings cycles text config
 SetsUp cycles text (Err why) = (why ≡ Memory) ⊎ (setup_refusal cycles text ≡ Some why)
 
--- a processor that has run the executable's image, or why it was not run
-abbrev pub HasRun : ℕ → List ℕ → Processor → Type 0
-HasRun cycles exe p = (image : ImageView) × Loads exe (Ok image) × IsOver image cycles p
+-- a machine that has run the executable's image
+pub record RanImage (exe : List ℕ) (config : Config) (cycles : ℕ) (v : MachineView) : Type 0 where
+  pub image : ImageView
+  pub loaded : Loads exe (Ok image)
+  pub ran : HasRun image config cycles v
 
-abbrev pub Runs : ℕ → List ℕ → Result Processor Refusal → Type 0
-Runs cycles exe (Ok p) = HasRun cycles exe p
-Runs cycles exe (Err why) = (why ≡ Memory) ⊎ (image_refusal exe ≡ Some why)
+-- ...or why it was not run
+abbrev pub Runs : {b : _} → List ℕ → Config → ℕ → Result (Machine FlatStore b) Refusal → Type 0
+Runs exe config cycles (Ok m) = RanImage exe config cycles (flat_view m)
+Runs exe config cycles (Err why) = (why ≡ Memory) ⊎ (image_refusal exe ≡ Some why)
 
 -- the file of the order, as far as it was written
 abbrev pub StoresOrder : Shelf → Shelf → List ℕ → List ℕ → Result (Unit {0}) Refusal → Type 0

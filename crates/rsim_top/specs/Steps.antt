@@ -1,5 +1,5 @@
 -- The steps of the commands before anything is written, and what each of them refuses.
-use Rattle.std.specs.Prelude.{ℕ, ◌*◌, ◌==◌, not, nat_le, List, Option, option_map}
+use Rattle.std.specs.Prelude.{ℕ, ◌*◌, not, nat_le, List, Option, option_map}
 use Rattle.std.specs.Option.{option_or}
 use Rattle.machine_config.specs.Faults.{first_fault as config_fault, given}
 use Rattle.machine_config.specs.Keys.{processors, retire_width}
@@ -19,13 +19,11 @@ longest_exe = 16777216
 abbrev pub longest_order : ℕ
 longest_order = 1073741824
 
--- a configuration with a fault, one with which the run may retire more than 8,000,000 instructions, and one that asks for
--- several processors, which are not built yet
+-- a configuration with a fault, and one with which the run may retire more than 8,000,000 instructions
 abbrev pub setup_refusal : ℕ → List ℕ → Option Refusal
 setup_refusal cycles text =
     option_or (option_map refusal.Config (config_fault text))
-    (option_or (when (not (nat_le (cycles * given text processors * given text retire_width) 8000000)) refusal.TooLong)
-    (when (not (given text processors == 1)) refusal.Unbuilt))
+    (when (not (nat_le (cycles * given text processors * given text retire_width) 8000000)) refusal.TooLong)
 
 -- an executable with a fault
 abbrev pub image_refusal : List ℕ → Option Refusal

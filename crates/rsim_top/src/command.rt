@@ -1,20 +1,25 @@
 // The top call.
-ghost use Rattle.std.specs.Prelude.{◌≡◌, ◌≤◌, ◌<◌, ◌-◌, ◌^◌, IfOk, length, map, string_bytes};
+ghost use Rattle.std.specs.Prelude.{◌≡◌, ◌≤◌, ◌<◌, ◌-◌, ◌^◌, true, IfOk, length, map, string_bytes};
+ghost use Rattle.std.specs.List.{All};
+ghost use Rattle.cycle_loop.specs.Answers.{all_retired as all_retired_of};
+ghost use Rattle.machine_config.specs.Allowed.{IsAllowed, is_short};
 ghost use Rattle.rsim_top.specs.Answers.{Answers, AnswersFile};
 ghost use Rattle.rsim_top.specs.Causes.{IsExact, IsComplete};
-ghost use Rattle.rsim_top.specs.Machine.{order_of, report_of};
+ghost use Rattle.rsim_top.specs.Machine.{flat_view, order_of, report_of};
 ghost use Rattle.rsim_top.specs.Outside.{outside, shelf_of, sink_of};
 ghost use Rattle.rsim_top.specs.Parts.{asked_by, Fetches, Kept, SetsUp, Runs, StoresOrder, PutsReport};
 ghost use Rattle.rsim_top.specs.Refusals.{write_refusal_of};
 
+use crate::machine::run;
 use crate::order_file::store_order;
-use crate::processor::Processor;
 use crate::refusal::{File, Refusal};
 use crate::report_text::report_text;
 use command_words::{BadWords, Executable, RunWords, read_run};
+use cycle_loop::Machine;
 use elf64_load::{ElfFault, load};
 use machine_config::{Config, ConfigFault, fits, read as read_config};
-use rsim_base::{Model, NoMemory};
+use memory_contracts::FlatStore;
+use rsim_base::{Model, NoMemory, Node};
 use rsim_io::{FetchFault, Shelf, Sink, StoreFault};
 use std::alloc::Global;
 
@@ -106,12 +111,12 @@ fn run_executable<S: Shelf, K: Sink>(
     let text = fetch(alloc, File::Config, MAX_CONFIG, want.config, shelf)?;
     let file = fetch(alloc, File::Exe, MAX_EXE, exe, shelf)?;
     let config = set_up(alloc, &text, want.cycles)?;
-    let processor = run_file(alloc, &file, want.cycles)?;
-    write_order(alloc, want.order, config.model, &processor, shelf)?;
-    write_report(alloc, &processor, out)?;
+    let mut machine = run_file(alloc, &file, config, want.cycles)?;
+    write_order(alloc, want.order, config.model, &mut machine, shelf)?;
+    write_report(alloc, &machine, out)?;
     Ok(Reported {
-        cycles: processor.retired,
-        retired: u64::from(processor.retired),
+        cycles: machine.cycles(),
+        retired: all_retired(&machine),
     })
 }
 
@@ -151,65 +156,80 @@ fn set_up(alloc: Global, text: &[u8], cycles: u32) -> Result<Config, Refusal>
     if !fits(&config, cycles) {
         return Err(Refusal::TooLong);
     }
-    if config.processors != 1 {
-        return Err(Refusal::Unbuilt);
-    }
     Ok(config)
 }
 
-// The processor after it has run the file's image.
-fn run_file(alloc: Global, file: &[u8], cycles: u32) -> Result<Processor, Refusal>
-    ensures { Runs cycles file.now result }
+// The machine after it has run the file's image.
+fn run_file(
+    alloc: Global,
+    file: &[u8],
+    config: Config,
+    cycles: u32,
+) -> Result<Machine<FlatStore>, Refusal>
+    requires allowed { IsAllowed config }
+    requires short { is_short config cycles ≡ true }
+    ensures { Runs file.now config cycles result }
 {
     let image = match load(alloc, file) {
         Ok(image) => image,
         Err(ElfFault::Memory) => return Err(Refusal::Memory),
         Err(fault) => return Err(Refusal::Elf(fault)),
     };
-    match Processor::run(alloc, &image, cycles) {
-        Ok(processor) => Ok(processor),
+    match run(alloc, image, config, cycles) {
+        Ok(machine) => Ok(machine),
         Err(NoMemory) => Err(Refusal::Memory),
     }
 }
 
-// Writes the order of a run.
+// Writes the order of a machine that has run. The accesses are taken out of it.
 fn write_order<S: Shelf>(
     alloc: Global,
     name: &str,
     model: Model,
-    processor: &Processor,
+    machine: &mut Machine<FlatStore>,
     shelf: &mut S,
 ) -> Result<(), Refusal>
+    requires retired { All (λ x. x.retired ≡ true) (flat_view machine.old).log }
     ensures stored { StoresOrder (shelf_of S.holds S.faults S.sure shelf.old) (shelf_of S.holds S.faults S.sure shelf.new)
-        name.now (order_of model processor.now.order.items processor.now.retired) result }
+        name.now (order_of model (flat_view machine.old)) result }
     ensures kept { Kept (shelf_of S.holds S.faults S.sure shelf.old) (shelf_of S.holds S.faults S.sure shelf.new) }
+    ensures cores { (flat_view machine.new).cores ≡ (flat_view machine.old).cores }
+    ensures cycles { (flat_view machine.new).cycles ≡ (flat_view machine.old).cycles }
 {
-    match store_order(
-        alloc,
-        name,
-        model,
-        &processor.order,
-        processor.retired,
-        shelf,
-    ) {
+    match store_order(alloc, name, model, machine, shelf) {
         Ok(()) => Ok(()),
         Err(fault) => Err(write_refusal(File::Order, fault)),
     }
 }
 
-// Writes the report of a run.
-fn write_report<K: Sink>(alloc: Global, processor: &Processor, out: &mut K) -> Result<(), Refusal>
+// Writes the report of a machine that has run.
+fn write_report<K: Sink>(
+    alloc: Global,
+    machine: &Machine<FlatStore>,
+    out: &mut K,
+) -> Result<(), Refusal>
     ensures put { PutsReport (sink_of K.written K.faults K.sure out.old) (sink_of K.written K.faults K.sure out.new)
-        (report_of processor.now.retired processor.now.arch.end processor.now.output.items) result }
+        (report_of (flat_view machine.now)) result }
     ensures faults { K.faults out.old ≤ K.faults out.new }
 {
-    let Ok(text) = report_text(alloc, processor) else {
+    let Ok(text) = report_text(alloc, machine) else {
         return Err(Refusal::Memory);
     };
     match out.put(&text) {
         Ok(()) => Ok(()),
         Err(fault) => Err(write_refusal(File::Report, fault)),
     }
+}
+
+// The steps that all processors have retired together.
+fn all_retired(machine: &Machine<FlatStore>) -> u64
+    ensures { result ≡ all_retired_of (flat_view machine.now).cores }
+{
+    let mut steps = 0u64;
+    for p in 0..machine.processors() {
+        steps += u64::from(machine.retired(Node(p)));
+    }
+    steps
 }
 
 // The refusal for a file or stream that was not written.

@@ -3,8 +3,8 @@
 
 mod checking;
 mod command;
+mod machine;
 mod order_file;
-mod processor;
 mod program;
 mod refusal;
 mod report_text;

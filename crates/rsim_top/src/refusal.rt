@@ -38,8 +38,7 @@ pub enum Refusal {
     /// In so many cycles all processors together may retire more than 8,000,000 instructions.
     #[error("run too long")]
     TooLong,
-    /// What is asked for is not built yet: an executable that is to be generated, or a machine of several
-    /// processors.
+    /// What is asked for is not built yet: an executable that is to be generated.
     #[error("not built")]
     Unbuilt,
     /// The executable cannot be loaded.

@@ -1,8 +1,8 @@
 use Rattle.std.proofs.Common.{◌≤◌, arith}
 use Rattle.cycle_loop.specs.Machines.{machine_view}
 use Rattle.cycle_loop.specs.Ready.{views_of}
-use Rattle.memory_contracts.proofs.Sizes.{sizes_of}
 use Rattle.cycle_loop.proofs.Keeping.{IsAtStart-made, IsReady-start}
+use Rattle.cycle_loop.proofs.Sizes.{sizes_of}
 use Rattle.cycle_loop.proofs.Starting.{Stands-start}
 use Rattle.cycle_loop.proofs.machine.Machine.make.Goals as goal
 
