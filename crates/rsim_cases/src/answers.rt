@@ -23,7 +23,7 @@ pub fn words(alloc: Global, case: &str) -> Result<Outcome> {
         exe: &exe,
         order: if order.is_empty() { "order" } else { order },
     };
-    answered(alloc, answer, &command.left(alloc)?)
+    answered(alloc, answer, &command.left_both_ways(alloc)?)
 }
 
 /// `ANSWER | CYCLES | CONFIG | EXE`.
@@ -40,7 +40,7 @@ pub fn files(alloc: Global, case: &str) -> Result<Outcome> {
         exe: &exe,
         order: "order",
     };
-    answered(alloc, answer, &command.left(alloc)?)
+    answered(alloc, answer, &command.left_both_ways(alloc)?)
 }
 
 // What a command answered. What is refused is to leave no report and no order; of a run only the answer and the verdict

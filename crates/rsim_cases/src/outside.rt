@@ -20,14 +20,19 @@ pub struct Command<'a> {
 }
 
 impl Command<'_> {
-    /// What it leaves. Where it is not the same over a shelf and a sink that cannot fail, the answer says so.
+    /// What it leaves where no call fails.
     pub fn left(self, alloc: Global) -> Result<Left> {
-        let mut left = self.left_by_failing(alloc, Vec::new(alloc), Vec::new(alloc))?;
+        self.left_by_failing(alloc, Vec::new(alloc), Vec::new(alloc))
+    }
+
+    /// The same. Where it is something else over a shelf and a sink that cannot fail, the answer says so.
+    pub fn left_both_ways(self, alloc: Global) -> Result<Left> {
+        let mut left = self.left(alloc)?;
         let found = left.text(alloc)?;
         let surely = self.left_surely(alloc)?.text(alloc)?;
         if surely != found {
             left.answer = format!(in alloc;
-                "otherwise where nothing fails: {surely}\n{}",
+                "otherwise where nothing can fail: {surely}\n{}",
                 left.answer
             )?;
         }
