@@ -1,21 +1,29 @@
 // Cases of what a command answers, and of what is left then.
 use crate::executables::executable;
 use crate::fields::field;
+use crate::left::Left;
 use crate::outcome::{Outcome, outcome_of};
-use crate::outside::{answer_to, failing, found, shelf_with, text_of};
+use crate::outside::Command;
 use anyhow::Result;
-use rsim_io::MemSink;
 use std::alloc::Global;
 
 // A program that exits at once.
 const EXIT: &str = "91D02010";
 
-/// `ANSWER | WORD ..`, over a program that exits at once and an empty configuration.
+/// `ANSWER | WORD .. | ORDER`, over a program that exits at once and an empty configuration: the order has this name,
+/// or `order` where none is given.
 pub fn words(alloc: Global, case: &str) -> Result<Outcome> {
-    let (answer, words) = field(case);
+    let (answer, case) = field(case);
+    let (words, order) = field(case);
+    let order = order.trim();
     let exe = executable(alloc, EXIT)?;
-    let found = found(alloc, words, b"", &exe)?;
-    answered(alloc, answer, &found)
+    let command = Command {
+        words,
+        config: b"",
+        exe: &exe,
+        order: if order.is_empty() { "order" } else { order },
+    };
+    answered(alloc, answer, &command.left_both_ways(alloc)?)
 }
 
 /// `ANSWER | CYCLES | CONFIG | EXE`.
@@ -25,72 +33,94 @@ pub fn files(alloc: Global, case: &str) -> Result<Outcome> {
     let (config, exe) = field(case);
     let config = config_of(alloc, config)?;
     let exe = exe_of(alloc, exe.trim())?;
-    let line = format!(in alloc; "exe config {cycles} order")?;
-    let found = found(alloc, &line, &config, &exe)?;
-    answered(alloc, answer, &found)
+    let words = format!(in alloc; "exe config {cycles} order")?;
+    let command = Command {
+        words: words.as_str(),
+        config: &config,
+        exe: &exe,
+        order: "order",
+    };
+    answered(alloc, answer, &command.left_both_ways(alloc)?)
 }
 
-// An answer and what else came out. What is refused is to leave no report and no order; of a run only the answer
-// is looked at.
-fn answered(alloc: Global, answer: &str, found: &str) -> Result<Outcome> {
-    if let Some((first, _)) = found.split_once('\n')
-        && answer.starts_with("done")
-    {
-        return outcome_of(alloc, answer, first);
+// What a command answered. What is refused is to leave no report and no order; of a run only the answer and the verdict
+// on its order are looked at: `done CYCLES STEPS, accepted STEPS ACCESSES`.
+fn answered(alloc: Global, answer: &str, found: &Left) -> Result<Outcome> {
+    if answer.starts_with("done") && found.answer.starts_with("done") {
+        let found = format!(in alloc; "{}, {}", found.answer, found.verdict)?;
+        return outcome_of(alloc, answer, &found);
     }
-    let wanted = format!(in alloc; "{answer}\norder:\nnone")?;
-    outcome_of(alloc, &wanted, found)
+    against(alloc, answer, "none", "none", found)
 }
 
-/// `CALL | ANSWER | ORDER`: the call of the shelf with this number fails, and so much of the order is left.
+/// `CALL | ANSWER | ORDER | VERDICT`: the call of the shelf with this number fails, and so much of the order is left.
 pub fn shelf(alloc: Global, case: &str) -> Result<Outcome> {
     let (call, wanted) = field(case);
-    let exe = executable(alloc, EXIT)?;
     let calls = vec![in alloc; call.parse::<u32>()?]?;
-    let found = failing(
-        alloc,
-        "exe config 5 order",
-        b"",
-        &exe,
-        calls,
-        Vec::new(alloc),
-    )?;
-    left(alloc, wanted, &found)
+    let exe = executable(alloc, EXIT)?;
+    let found = run_of(&exe).left_by_failing(alloc, calls, Vec::new(alloc))?;
+    leaving(alloc, wanted, &found)
 }
 
-/// `CALL | ANSWER | ORDER`: the call of the sink with this number fails, and so much of the order is left.
+/// `CALL | ANSWER | ORDER | VERDICT`: the call of the sink with this number fails, and so much of the order is left.
 pub fn sink(alloc: Global, case: &str) -> Result<Outcome> {
     let (call, wanted) = field(case);
-    let exe = executable(alloc, EXIT)?;
     let calls = vec![in alloc; call.parse::<u32>()?]?;
-    let found = failing(
-        alloc,
-        "exe config 5 order",
-        b"",
-        &exe,
-        Vec::new(alloc),
-        calls,
-    )?;
-    left(alloc, wanted, &found)
+    let exe = executable(alloc, EXIT)?;
+    let found = run_of(&exe).left_by_failing(alloc, Vec::new(alloc), calls)?;
+    leaving(alloc, wanted, &found)
 }
 
-/// `ANSWER | ORDER`: the order is written over the executable.
+/// `ANSWER | ORDER | VERDICT`: the order is written over the executable. The report is not looked at.
 pub fn over(alloc: Global, case: &str) -> Result<Outcome> {
     let exe = executable(alloc, EXIT)?;
-    let mut shelf = shelf_with(alloc, b"", &exe, Vec::new(alloc))?;
-    let mut out = MemSink::make(alloc, Vec::new(alloc))?;
-    let answer = answer_to(alloc, "exe config 5 exe", &mut shelf, &mut out)?;
-    let order = shelf.file("exe").map_or("none", text_of);
-    let found = format!(in alloc; "{answer}\norder:\n{order}")?;
-    left(alloc, case, &found)
+    let over = Command {
+        words: "exe config 5 exe",
+        config: b"",
+        exe: &exe,
+        order: "exe",
+    };
+    let mut found = over.left(alloc)?;
+    found.report.clear();
+    leaving(alloc, case, &found)
 }
 
-// `ANSWER | ORDER`, with `\n` for a line feed, and what came out.
-fn left(alloc: Global, wanted: &str, found: &str) -> Result<Outcome> {
-    let (answer, order) = field(wanted);
-    let order = order.trim().replace(alloc, "\\n", "\n")?;
-    let wanted = format!(in alloc; "{answer}\norder:\n{order}")?;
-    outcome_of(alloc, &wanted, found)
+// A run of this executable.
+fn run_of(exe: &[u8]) -> Command<'_> {
+    Command {
+        words: "exe config 5 order",
+        config: b"",
+        exe,
+        order: "order",
+    }
+}
+
+// `ANSWER | ORDER | VERDICT`, with `\n` for a line feed, and what was left.
+fn leaving(alloc: Global, wanted: &str, found: &Left) -> Result<Outcome> {
+    let (answer, wanted) = field(wanted);
+    let (order, verdict) = field(wanted);
+    let order = order.replace(alloc, "\\n", "\n")?;
+    against(alloc, answer, &order, verdict.trim(), found)
+}
+
+// What should be left, without a report, and what was.
+fn against(
+    alloc: Global,
+    answer: &str,
+    order: &str,
+    verdict: &str,
+    found: &Left,
+) -> Result<Outcome> {
+    let wanted = Left {
+        answer: String::from_str(alloc, answer)?,
+        report: String::new(alloc),
+        order: String::from_str(alloc, order)?,
+        verdict: String::from_str(alloc, verdict)?,
+    };
+    Ok(Outcome {
+        wanted: wanted.text(alloc)?,
+        found: found.text(alloc)?,
+    })
 }
 
 // A configuration: a text with `\n` for a line feed and `\1` for the byte 1, or `COUNT signs`, so many `#`.

@@ -1,8 +1,9 @@
 // Cases of an order that is written in several pieces, and of refusals that no other case makes.
 use crate::executables::executable;
 use crate::fields::field;
+use crate::left::Left;
 use crate::outcome::{Outcome, outcome_of};
-use crate::outside::{failing, refused};
+use crate::outside::{Command, refused};
 use anyhow::{Result, bail};
 use elf64_load::ElfFault;
 use rsim_top::{File, Refusal};
@@ -15,10 +16,16 @@ pub fn cut(alloc: Global, case: &str) -> Result<Outcome> {
     let (least, case) = field(case);
     let (cycles, code) = field(case);
     let exe = executable(alloc, code)?;
-    let line = format!(in alloc; "exe config {cycles} order")?;
+    let words = format!(in alloc; "exe config {cycles} order")?;
+    let command = Command {
+        words: words.as_str(),
+        config: b"",
+        exe: &exe,
+        order: "order",
+    };
     let calls = vec![in alloc; call.parse::<u32>()?]?;
-    let whole = failing(alloc, &line, b"", &exe, Vec::new(alloc), Vec::new(alloc))?;
-    let cut = failing(alloc, &line, b"", &exe, calls, Vec::new(alloc))?;
+    let whole = command.left(alloc)?;
+    let cut = command.left_by_failing(alloc, calls, Vec::new(alloc))?;
     outcome_of(
         alloc,
         "a part",
@@ -27,17 +34,17 @@ pub fn cut(alloc: Global, case: &str) -> Result<Outcome> {
 }
 
 // What a run left whose order could not be written whole, beside what it leaves where it can.
-fn found_in(whole: &str, cut: &str, least: usize) -> &'static str {
-    let Some(part) = cut.strip_prefix("6 cannot write order\norder:\n") else {
-        return "another answer";
-    };
-    let Some((_, order)) = whole.split_once("order:\n") else {
-        return "no order";
-    };
-    if !order.starts_with(part) {
+fn found_in(whole: &Left, cut: &Left, least: usize) -> &'static str {
+    if cut.answer.as_str() != "6 cannot write order" || !cut.report.is_empty() {
+        "another answer"
+    } else if !whole.order.starts_with(cut.order.as_str()) {
         "no part"
-    } else if part.len() < least || order.len() <= part.len() {
+    } else if cut.order.len() < least || whole.order.len() <= cut.order.len() {
         "another length"
+    } else if !whole.verdict.starts_with("accepted ")
+        || cut.verdict.as_str() != "rejected Truncated"
+    {
+        "another verdict"
     } else {
         "a part"
     }

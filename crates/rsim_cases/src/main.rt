@@ -4,12 +4,18 @@
 #![tactic(auto)]
 
 mod answers;
+mod counting;
 mod executables;
 mod failures;
 mod fields;
+mod left;
 mod outcome;
 mod outside;
 mod runs;
+mod setting;
+mod shapes;
+mod told;
+mod verdict;
 
 use anyhow::{Result, bail};
 use outcome::Outcome;
@@ -46,6 +52,8 @@ fn outcome_of(alloc: Global, kind: &str, case: &str) -> Result<Outcome> {
         "run" => runs::run(alloc, case),
         "link" => runs::link(alloc, case),
         "part" => runs::part(alloc, case),
+        "shapes" => shapes::shapes(alloc, case),
+        "count" => counting::count(alloc, case),
         "words" => answers::words(alloc, case),
         "files" => answers::files(alloc, case),
         "shelf" => answers::shelf(alloc, case),

@@ -1,68 +1,114 @@
-// Commands over files in memory, and what came out of them: a text of the answer, the report, and the order or
-// `none`.
+// Commands over files in memory, and what they leave.
+use crate::left::{Left, text_of};
+use crate::verdict::verdict_on;
 use anyhow::Result;
 use rsim_io::{MemShelf, MemSink, Shelf, Sink, SureShelf, SureSink};
-use rsim_top::{Refusal, Reported, run_command};
+use rsim_top::{Refusal, run_command};
 use std::alloc::Global;
-use std::str;
 
-/// What comes out of a command of these words, parted by spaces, over these bytes under the names `config` and
-/// `exe`. Where it is not the same over a shelf and a sink that cannot fail, it says so first.
-pub fn found(alloc: Global, line: &str, config: &[u8], exe: &[u8]) -> Result<String> {
-    let found = failing(alloc, line, config, exe, Vec::new(alloc), Vec::new(alloc))?;
-    let surely = surely(alloc, line, config, exe)?;
-    if surely == found {
-        return Ok(found);
+/// A command, and the files that it finds.
+#[derive(Clone, Copy)]
+pub struct Command<'a> {
+    /// The words behind the program's name, parted by spaces; `''` is the empty word.
+    pub words: &'a str,
+    /// What stands under the name `config`.
+    pub config: &'a [u8],
+    /// What stands under the name `exe`.
+    pub exe: &'a [u8],
+    /// The name under which the order is looked for.
+    pub order: &'a str,
+}
+
+impl Command<'_> {
+    /// What it leaves where no call fails.
+    pub fn left(self, alloc: Global) -> Result<Left> {
+        self.left_by_failing(alloc, Vec::new(alloc), Vec::new(alloc))
     }
-    Ok(format!(in alloc; "otherwise where nothing fails: {surely}\n{found}")?)
-}
 
-/// The same where the calls of the shelf and of the sink with these numbers fail.
-pub fn failing(
-    alloc: Global,
-    line: &str,
-    config: &[u8],
-    exe: &[u8],
-    of_shelf: Vec<u32>,
-    of_sink: Vec<u32>,
-) -> Result<String> {
-    let mut shelf = shelf_with(alloc, config, exe, of_shelf)?;
-    let mut out = MemSink::make(alloc, of_sink)?;
-    let answer = answer_to(alloc, line, &mut shelf, &mut out)?;
-    let keeps = shelf.file("config") == Some(config) && shelf.file("exe") == Some(exe);
-    told(alloc, &answer, keeps, out.bytes(), shelf.file("order"))
-}
+    /// The same. Where it is something else over a shelf and a sink that cannot fail, the answer says so.
+    pub fn left_both_ways(self, alloc: Global) -> Result<Left> {
+        let mut left = self.left(alloc)?;
+        let found = left.text(alloc)?;
+        let surely = self.left_surely(alloc)?.text(alloc)?;
+        if surely != found {
+            left.answer = format!(in alloc;
+                "otherwise where nothing can fail: {surely}\n{}",
+                left.answer
+            )?;
+        }
+        Ok(left)
+    }
 
-// The same over a shelf and a sink none of whose calls can fail.
-fn surely(alloc: Global, line: &str, config: &[u8], exe: &[u8]) -> Result<String> {
-    let mut shelf = SureShelf::make(alloc)?;
-    shelf.set("config", config)?;
-    shelf.set("exe", exe)?;
-    let mut out = SureSink::make(alloc)?;
-    let answer = answer_to(alloc, line, &mut shelf, &mut out)?;
-    let keeps = shelf.file("config") == Some(config) && shelf.file("exe") == Some(exe);
-    told(alloc, &answer, keeps, out.bytes(), shelf.file("order"))
-}
+    /// What it leaves where the calls of the shelf and of the sink with these numbers fail.
+    pub fn left_by_failing(
+        self,
+        alloc: Global,
+        of_shelf: Vec<u32>,
+        of_sink: Vec<u32>,
+    ) -> Result<Left> {
+        let mut shelf = MemShelf::make(alloc, of_shelf)?;
+        shelf.set("config", self.config)?;
+        shelf.set("exe", self.exe)?;
+        let mut out = MemSink::make(alloc, of_sink)?;
+        let answer = self.answer(alloc, &mut shelf, &mut out)?;
+        let keeps = self.keeps(shelf.file("config"), shelf.file("exe"));
+        self.left_with(alloc, answer, keeps, out.bytes(), shelf.file(self.order))
+    }
 
-/// A shelf with these bytes under the names `config` and `exe`, whose calls with these numbers fail.
-pub fn shelf_with(alloc: Global, config: &[u8], exe: &[u8], fails: Vec<u32>) -> Result<MemShelf> {
-    let mut shelf = MemShelf::make(alloc, fails)?;
-    shelf.set("config", config)?;
-    shelf.set("exe", exe)?;
-    Ok(shelf)
-}
+    // What it leaves over a shelf and a sink none of whose calls can fail.
+    fn left_surely(self, alloc: Global) -> Result<Left> {
+        let mut shelf = SureShelf::make(alloc)?;
+        shelf.set("config", self.config)?;
+        shelf.set("exe", self.exe)?;
+        let mut out = SureSink::make(alloc)?;
+        let answer = self.answer(alloc, &mut shelf, &mut out)?;
+        let keeps = self.keeps(shelf.file("config"), shelf.file("exe"));
+        self.left_with(alloc, answer, keeps, out.bytes(), shelf.file(self.order))
+    }
 
-/// Does a command of these words, and tells its answer: `done`, the cycles and the retired steps, or the exit
-/// status and the text of the refusal.
-pub fn answer_to<S: Shelf, K: Sink>(
-    alloc: Global,
-    line: &str,
-    shelf: &mut S,
-    out: &mut K,
-) -> Result<String> {
-    let words = words(alloc, line)?;
-    let answer = run_command(alloc, &words, shelf, out);
-    shown(alloc, answer)
+    // `done`, the cycles and the retired steps, or the exit status and the text of the refusal.
+    fn answer<S: Shelf, K: Sink>(
+        self,
+        alloc: Global,
+        shelf: &mut S,
+        out: &mut K,
+    ) -> Result<String> {
+        let words = words(alloc, self.words)?;
+        match run_command(alloc, &words, shelf, out) {
+            Ok(done) => Ok(format!(in alloc; "done {} {}", done.cycles, done.retired)?),
+            Err(refusal) => refused(alloc, refusal),
+        }
+    }
+
+    // Whether these are the configuration and the executable, where the order was not to replace them.
+    fn keeps(self, config: Option<&[u8]>, exe: Option<&[u8]>) -> bool {
+        config == Some(self.config) && (exe == Some(self.exe) || self.order == "exe")
+    }
+
+    fn left_with(
+        self,
+        alloc: Global,
+        answer: String,
+        keeps: bool,
+        report: &[u8],
+        order: Option<&[u8]>,
+    ) -> Result<Left> {
+        let change = if keeps {
+            ""
+        } else {
+            ", and a file was changed"
+        };
+        let verdict = match order {
+            Some(order) => verdict_on(alloc, self.exe, order)?,
+            None => String::from_str(alloc, "none")?,
+        };
+        Ok(Left {
+            answer: format!(in alloc; "{answer}{change}")?,
+            report: String::from_str(alloc, text_of(report))?,
+            order: String::from_str(alloc, order.map_or("none", text_of))?,
+            verdict,
+        })
+    }
 }
 
 // Words parted by spaces; `''` is the empty word.
@@ -75,37 +121,7 @@ fn words(alloc: Global, line: &str) -> Result<Vec<String>> {
     Ok(words)
 }
 
-fn shown(alloc: Global, answer: Result<Reported, Refusal>) -> Result<String> {
-    match answer {
-        Ok(done) => Ok(format!(in alloc; "done {} {}", done.cycles, done.retired)?),
-        Err(refusal) => refused(alloc, refusal),
-    }
-}
-
 /// The exit status and the text of a refusal.
 pub fn refused(alloc: Global, refusal: Refusal) -> Result<String> {
     Ok(format!(in alloc; "{} {refusal}", refusal.code())?)
-}
-
-// All that came out, as one text, where the configuration and the executable are as they were or not.
-fn told(
-    alloc: Global,
-    answer: &str,
-    keeps: bool,
-    report: &[u8],
-    order: Option<&[u8]>,
-) -> Result<String> {
-    let change = if keeps {
-        ""
-    } else {
-        ", and a file was changed"
-    };
-    let report = text_of(report);
-    let order = order.map_or("none", text_of);
-    Ok(format!(in alloc; "{answer}{change}\n{report}order:\n{order}")?)
-}
-
-/// Bytes that should be a text.
-pub fn text_of(bytes: &[u8]) -> &str {
-    str::from_utf8(bytes).unwrap_or("not a text")
 }
