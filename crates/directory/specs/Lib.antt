@@ -1,0 +1,6 @@
+pub mod Homes
+pub mod Kept
+pub mod Known
+pub mod NodeSets
+pub mod Noted
+pub mod Said

@@ -1,0 +1,11 @@
+//! The homes of lines: what each notes of its lines, and what it answers to the messages of nodes.
+#![tactic(auto)]
+
+mod line_record;
+mod node_set;
+mod outgoing;
+mod records;
+mod step;
+mod table;
+mod waiting;
+mod word;
