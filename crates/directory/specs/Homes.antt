@@ -19,7 +19,18 @@ pub record Post : Type 0 where
   pub message : Message
   pub since : ℕ
 
+-- what the home says to a node about a line
+pub record Mail : Type 0 where
+  pub line : ℕ
+  pub to : ℕ
+  pub message : Message
+
+abbrev pub mail_of : Post → Mail
+mail_of post = record { line = post.line; to = post.to; message = post.message }
+
 pub record HomeView : Type 0 where
+  -- the home's own node
+  pub at : ℕ
   -- the home is one of so many nodes
   pub nodes : ℕ
   pub protocol : Protocol

@@ -1,6 +1,7 @@
 -- What the parts of a home stand for.
 use Rattle.std.specs.Prelude.{◌≡◌, ℕ, ◌<◌, nat_eq, Bool, List, [], map, slice_get, Option, None, Some, is_some, option_map, unwrap_or}
 use Rattle.std.specs.HashMap.{get}
+use Rattle.rsim_base.specs.declared.memory.Node.{Node}
 use Rattle.memory_contracts.specs.Protocol.Lines.{HomeRecord, Idle, nobody}
 use Rattle.memory_contracts.specs.declared.message.Message.{Message}
 use Rattle.directory.specs.Homes.{Letter}
@@ -47,3 +48,7 @@ post_of post = record { line = post.line.0; to = post.to.0; message = word_of po
 
 abbrev pub posts_in : Outgoing → List Homes.Post
 posts_in outgoing = map post_of outgoing.posts.items
+
+-- a message as it is handed out, with the node that it is for
+abbrev pub told : Node × Message → Homes.Mail
+told sent = record { line = sent.1.line.0; to = sent.0.0; message = said sent.1 }

@@ -1,6 +1,8 @@
+pub mod HomeViews
 pub mod Homes
 pub mod Kept
 pub mod Known
 pub mod NodeSets
 pub mod Noted
 pub mod Said
+pub mod Start

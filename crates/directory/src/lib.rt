@@ -1,6 +1,7 @@
 //! The homes of lines: what each notes of its lines, and what it answers to the messages of nodes.
 #![tactic(auto)]
 
+mod home;
 mod line_record;
 mod node_set;
 mod outgoing;
@@ -9,3 +10,5 @@ mod step;
 mod table;
 mod waiting;
 mod word;
+
+pub use home::Home;

@@ -1,4 +1,8 @@
 // What a home notes of a line.
+ghost use Rattle.std.specs.Prelude.{◌≡◌};
+ghost use Rattle.directory.specs.Homes.{is_idle};
+ghost use Rattle.directory.specs.Noted.{phase_of};
+
 use crate::node_set::NodeSet;
 use crate::word::LineBytes;
 use rsim_base::Node;
@@ -23,4 +27,13 @@ pub struct LineRecord {
     pub owner: Option<Node>,
     pub sharers: NodeSet,
     pub memory: LineBytes,
+}
+
+impl LineRecord {
+    /// Whether no request is served.
+    pub fn is_idle(&self) -> bool
+        ensures { result ≡ is_idle (phase_of self.now.phase) }
+    {
+        matches!(self.phase, LinePhase::Idle)
+    }
 }

@@ -1,6 +1,6 @@
 // Requests that wait.
-ghost use Rattle.std.specs.Prelude.{◌≡◌, ◌+◌, ◌<◌, ◌≤◌, ◌∷◌, ◌++◌, [], length, slice_get, if◌then◌else◌, IfOk, IfSome, Some};
-ghost use Rattle.std.specs.List.{remove};
+ghost use Rattle.std.specs.Prelude.{◌≡◌, ◌+◌, ◌==◌, ◌<◌, ◌≤◌, ◌∷◌, ◌++◌, [], length, slice_get, if◌then◌else◌, IfOk, IfSome, Some};
+ghost use Rattle.std.specs.List.{position, remove};
 ghost use Rattle.std.specs.Vec.{vec_capacity};
 
 use memory_contracts::Message;
@@ -57,7 +57,7 @@ impl Waiting {
         ensures first { result ≡ first_for line.0 (letters_in self.now) }
         ensures within { IfSome result (λ place. place < length (letters_in self.now)) }
     {
-        self.requests.iter().position(|m| m.line.0 == line.0)
+        place_of(self.requests.as_slice(), line)
     }
 
     /// Takes the request of a place off.
@@ -70,4 +70,12 @@ impl Waiting {
     {
         self.requests.remove(place)
     }
+}
+
+// Where the first of these messages about a line stands.
+fn place_of(messages: &[Message], line: Line) -> Option<usize>
+    ensures first { result ≡ position (λ m. m.line.0 == line.0) messages.now }
+    ensures within { IfSome result (λ place. place < length messages.now) }
+{
+    messages.iter().position(|m| m.line.0 == line.0)
 }
