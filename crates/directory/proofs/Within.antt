@@ -5,6 +5,8 @@ use Rattle.machine_config.specs.declared.config.Protocol.{Protocol}
 use Rattle.memory_contracts.specs.Protocol.Messages.{Message, GetS, GetM, Put, Inv, Recall, Grant, PutAck, InvAck, RecallAck, Done}
 use Rattle.memory_contracts.specs.Protocol.Lines.{Phase, Idle, Collecting, Recalling, Granting, HomeRecord, besides, is_some_node, joined, nobody}
 use Rattle.memory_contracts.specs.Protocol.HomeTable.{HomeStep, collects, grants_owned, grants_shared, home_row, home_takes, is_mesi, is_owner, nothing, recalls, to_each, to_none, to_one, waiting}
+use Rattle.directory.specs.Homes.{with_at}
+use Rattle.directory.specs.Kept.{AreKnown}
 use Rattle.directory.specs.Known.{AreBelow, IsKnown, owner_bound, phase_bound}
 
 pub record IsWithin (n : ℕ) (step : HomeStep) : Type 0 where
@@ -131,3 +133,10 @@ row-within protocol n h phase owner x m below known of_phase of_owner = nothing-
 
 pub takes-within : (protocol : Protocol) (n p : ℕ) (m : Message) (h : HomeRecord) → p < n → IsKnown n h → IsWithin n (home_takes protocol n p m h)
 takes-within protocol n p m h below known = row-within protocol n h h.phase h.owner p m below known known.phase known.owner
+
+pub known-with : (n : ℕ) (records : ℕ → HomeRecord) (line : ℕ) (h : HomeRecord) → AreKnown n records → IsKnown n h → AreKnown n (with_at records line h)
+known-with n records line h known of_h l = by (l == line)
+  where
+    by : (b : Bool) → IsKnown n (cond b h (records l))
+    by true = of_h
+    by false = known l
