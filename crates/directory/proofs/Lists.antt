@@ -1,6 +1,6 @@
 -- Lists of requests.
-use Rattle.std.proofs.Common.{◌≡◌, ℕ, zero, suc, ◌+◌, nat_lt, Bool, cond, not, List, [], ◌∷◌, map, length, Option, None, Some, refl, ap, ◌∙◌}
-use Rattle.std.specs.List.{position, prefix_len, remove}
+use Rattle.std.proofs.Common.{◌≡◌, ℕ, zero, suc, ◌+◌, ◌<◌, nat_lt, Bool, true, false, cond, not, ◌||◌, List, [], ◌∷◌, map, length, get_or, None, Some, refl, ap, ◌∙◌, arith}
+use Rattle.std.specs.List.{list_any, position, prefix_len, remove}
 use Rattle.std.proofs.lemmas.List.{length-map}
 
 pub map-remove : {A B : Type 0} (g : A → B) (xs : List A) (k : ℕ) → map g (remove xs k) ≡ remove (map g xs) k
@@ -17,3 +17,12 @@ pub position-map : {A B : Type 0} (p : B → Bool) (g : A → B) (xs : List A) �
 position-map p g xs =
     ap (λ n. cond (nat_lt n (length (map g xs))) (Some n) None) (prefix_len-map (λ y. not (p y)) g xs)
     ∙ ap (λ n. cond (nat_lt (prefix_len (λ x. not (p (g x))) xs) n) (Some (prefix_len (λ x. not (p (g x))) xs)) None) (length-map xs g)
+
+-- where one passes, one at some place does
+pub any-at : {X : Type 0} (p : X → Bool) (xs : List X) → list_any p xs ≡ true → (k : ℕ) × (k < length xs) × ((d : X) → p (get_or xs k d) ≡ true)
+any-at p [] any = absurd cc
+any-at {X} p (x ∷ xs) any = by_first (p x) refl any (any-at p xs)
+  where
+    by_first : (b : Bool) → p x ≡ b → (b || list_any p xs) ≡ true → (list_any p xs ≡ true → (k : ℕ) × (k < length xs) × ((d : X) → p (get_or xs k d) ≡ true)) → (k : ℕ) × (k < length (x ∷ xs)) × ((d : X) → p (get_or (x ∷ xs) k d) ≡ true)
+    by_first true e any rest = (0, omega arith, λ d. e)
+    by_first false e any rest = let (k, below, here) = rest any in (suc k, omega (arith, below), here)

@@ -1,5 +1,5 @@
 -- What the parts of a home stand for.
-use Rattle.std.specs.Prelude.{◌≡◌, ℕ, ◌<◌, nat_eq, Bool, List, [], map, slice_get, Option, None, Some, is_some, option_map, unwrap_or}
+use Rattle.std.specs.Prelude.{◌≡◌, ℕ, ◌<◌, nat_eq, Bool, List, [], map, slice_get, None, Some, is_some, option_map, unwrap_or}
 use Rattle.std.specs.HashMap.{get}
 use Rattle.rsim_base.specs.declared.memory.Node.{Node}
 use Rattle.memory_contracts.specs.Protocol.Lines.{HomeRecord, Idle, nobody}

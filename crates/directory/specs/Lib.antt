@@ -1,3 +1,4 @@
+pub mod Fresh
 pub mod HomeViews
 pub mod Homes
 pub mod Kept

@@ -1,5 +1,5 @@
 -- What a home begins with.
-use Rattle.std.specs.Prelude.{◌≡◌, ℕ, ◌+◌, ◌*◌, ◌/◌, ◌%◌, ◌^◌, ◌<◌, ◌≤◌, false, true, List, [], Option, None, slice_index, length}
+use Rattle.std.specs.Prelude.{◌≡◌, ℕ, ◌+◌, ◌*◌, ◌/◌, ◌%◌, ◌^◌, ◌<◌, ◌≤◌, true, List, [], None, slice_index, length}
 use Rattle.elf64_load.specs.Image.{ImageView, byte_at, is_mapped}
 use Rattle.machine_config.specs.declared.config.Config.{Config}
 use Rattle.memory_contracts.specs.Protocol.Lines.{HomeRecord, Idle, nobody}

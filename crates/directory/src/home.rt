@@ -1,14 +1,23 @@
 // The home of lines.
 ghost use Rattle.std.specs.Prelude.{◌≡◌, ◌+◌, ◌<◌, ◌≤◌, ◌*◌, drop, length, nat_le, option_map, true, IfOk, IfSome};
+ghost use Rattle.machine_config.specs.Allowed.{IsAllowed};
 ghost use Rattle.directory.specs.Homes.{HomeView, Serves, first_outgoing, has_room, home_after, is_idle, mail_of, most_outgoing, most_waiting};
 ghost use Rattle.directory.specs.Kept.{AreFrom, AreKnown, letter_of, letters_in, records_in, told};
+ghost use Rattle.directory.specs.Start.{IsStart};
 
 use crate::outgoing::{MOST_OUTGOING, Outgoing};
 use crate::records::Records;
+use crate::share::Share;
 use crate::table::HomeTable;
 use crate::waiting::Waiting;
+use elf64_load::Image;
+use machine_config::Config;
 use memory_contracts::Message;
-use rsim_base::{Line, Node};
+use rsim_base::{Line, NoMemory, Node};
+use std::alloc::Global;
+
+/// How many requests may wait at a home, for each node.
+const MOST_WAITING_OF_NODE: usize = 32;
 
 /// The home of a share of the lines: it keeps their memory, notes who has them, and answers the messages of nodes.
 #[derive(Drop)]
@@ -27,6 +36,32 @@ pub struct Home {
 
 impl Home {
     ghost use Rattle.directory.specs.HomeViews.{home_of};
+
+    /// The home at node `h`, before any message: nobody has a line, and memory is the image's.
+    ///
+    /// # Errors
+    /// Where memory is short.
+    pub fn make(alloc: Global, image: &Image, config: &Config, h: Node) -> Result<Home, NoMemory>
+        requires allowed { IsAllowed config.now }
+        requires node { h.0 < config.now.processors }
+        ensures start { IfOk result (λ home. IsStart image.now config.now h.0 (home_of home)) }
+    {
+        let share = Share::of(config, h);
+        let records = share.records(alloc, image)?;
+        let waiting = Waiting::make(alloc, config.processors as usize * MOST_WAITING_OF_NODE)?;
+        let outgoing = Outgoing::make(alloc)?;
+        Ok(Home {
+            at: h,
+            table: HomeTable {
+                protocol: config.protocol,
+                nodes: config.processors,
+            },
+            latency: config.home_latency,
+            records,
+            waiting,
+            outgoing,
+        })
+    }
 
     /// Whether a message may be taken: there are places for one more request to wait, and for two messages to each node.
     pub fn room(&self) -> bool

@@ -6,6 +6,7 @@ mod line_record;
 mod node_set;
 mod outgoing;
 mod records;
+mod share;
 mod step;
 mod table;
 mod waiting;

@@ -1,4 +1,4 @@
-use Rattle.std.proofs.Common.{◌≡◌, ℕ, true, List, sym, ap, subst, ◌∙◌}
+use Rattle.std.proofs.Common.{List, sym, ap, subst, ◌∙◌}
 use Rattle.directory.specs.Homes.{Letter}
 use Rattle.directory.specs.Kept.{AreFrom, has_line, letter_of, letters_in}
 use Rattle.directory.proofs.Letters.{first_for-line, from-remove}

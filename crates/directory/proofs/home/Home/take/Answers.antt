@@ -1,4 +1,4 @@
-use Rattle.std.proofs.Common.{◌≡◌, ℕ, List, sym, subst, ◌∙◌}
+use Rattle.std.proofs.Common.{ℕ, List, sym, subst, ◌∙◌}
 use Rattle.memory_contracts.specs.Protocol.Lines.{HomeRecord}
 use Rattle.memory_contracts.specs.Protocol.HomeTable.{HomeStep}
 use Rattle.directory.specs.Homes.{Letter}

@@ -1,4 +1,4 @@
-use Rattle.std.proofs.Common.{◌≡◌, ℕ, ◌<◌, ◌≤◌, ◌++◌, [], append-nil, refl, sym, ap, subst, ◌∙◌, arith}
+use Rattle.std.proofs.Common.{◌≡◌, ℕ, ◌≤◌, ◌++◌, [], append-nil, sym, ap, subst, ◌∙◌, arith}
 use Rattle.directory.specs.Homes.{posts}
 use Rattle.directory.specs.Kept.{posts_in}
 use Rattle.directory.specs.Noted.{sent_of, word_of}

@@ -1,4 +1,4 @@
-use Rattle.std.proofs.Common.{◌≡◌, ◌==◌, sym, ◌∙◌, ap}
+use Rattle.std.proofs.Common.{◌==◌, sym, ◌∙◌, ap}
 use Rattle.std.specs.List.{position}
 use Rattle.memory_contracts.specs.declared.message.Message.{Message}
 use Rattle.directory.specs.Homes.{Letter}
