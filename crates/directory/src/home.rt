@@ -1,5 +1,5 @@
 // The home of lines.
-ghost use Rattle.std.specs.Prelude.{◌≡◌, ◌+◌, ◌<◌, ◌≤◌, ◌*◌, drop, length, nat_le, option_map, true, IfOk, IfSome};
+ghost use Rattle.std.specs.Prelude.{◌≡◌, ◌+◌, ◌<◌, ◌≤◌, ◌*◌, drop, length, nat_le, option_map, true, IfOk, IfSome, OnSome};
 ghost use Rattle.machine_config.specs.Allowed.{IsAllowed};
 ghost use Rattle.directory.specs.Homes.{HomeView, Serves, first_outgoing, has_room, home_after, is_idle, mail_of, most_outgoing, most_waiting};
 ghost use Rattle.directory.specs.Kept.{AreFrom, AreKnown, letter_of, letters_in, records_in, told};
@@ -61,6 +61,13 @@ impl Home {
             waiting,
             outgoing,
         })
+    }
+
+    /// Whether the home keeps a line.
+    pub fn keeps(&self, line: Line) -> bool
+        ensures { result ≡ (home_of self.now).lines line.0 }
+    {
+        self.records.has(line)
     }
 
     /// Whether a message may be taken: there are places for one more request to wait, and for two messages to each node.
@@ -137,6 +144,7 @@ impl Home {
     pub fn outgoing(&self, now: u64) -> Option<(Node, Message)>
         ensures oldest { option_map told result ≡ option_map mail_of (first_outgoing (home_of self.now).latency now (home_of self.now).outgoing) }
         ensures from { IfSome result (λ sent. sent.1.from.0 ≡ (home_of self.now).at) }
+        ensures there { OnSome result (0 < length (home_of self.now).outgoing) }
     {
         let post = self.outgoing.first()?;
         if !post.may_go(self.latency, now) {

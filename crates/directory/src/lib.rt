@@ -9,6 +9,8 @@ mod records;
 mod share;
 mod step;
 mod table;
+#[cfg(test)]
+mod tests;
 mod waiting;
 mod word;
 

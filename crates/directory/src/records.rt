@@ -40,6 +40,13 @@ impl Records {
         }
     }
 
+    /// Whether a line is kept.
+    pub fn has(&self, line: Line) -> bool
+        ensures { result ≡ has_line self.now line.0 }
+    {
+        self.lines.contains_key(&line.0)
+    }
+
     /// What is noted of a line.
     pub fn get(&self, line: Line) -> LineRecord
         requires { has_line self.now line.0 ≡ true }
