@@ -1,5 +1,5 @@
 //! The home at node 0 of 16, with lines of 64 bytes and answers worked by hand.
-ghost use Rattle.std.specs.Prelude.{◌≡◌};
+ghost use Rattle.std.specs.Prelude.{◌≡◌, ◌≤◌, length};
 ghost use Rattle.directory.specs.HomeViews.{home_of};
 
 use crate::Home;
@@ -97,7 +97,9 @@ fn answering(line: Line, said: Said) -> (Node, Message) {
     (Node(said.node), message)
 }
 
-fn make_tested(rt: &impl Abort, alloc: Global, settings: &[u8]) -> Result<Tested, Fail> {
+fn make_tested(rt: &impl Abort, alloc: Global, settings: &[u8]) -> Result<Tested, Fail>
+    requires { length settings.now ≤ 65536 }
+{
     let image = load(alloc, EXIT)?;
     let config = read(alloc, settings)?;
     assert!(rt; config.processors == 16);
