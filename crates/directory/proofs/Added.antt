@@ -1,0 +1,49 @@
+-- Lines that are added to a home.
+use Rattle.std.proofs.Common.{◌≡◌, ℕ, ◌/◌, ◌<◌, ◌≤◌, ◌==◌, Bool, true, false, cond, refl, sym, ap, subst, ◌∙◌, arith}
+use Rattle.std.proofs.Math.Nat.{div-mul-le_self}
+use Rattle.std.proofs.lemmas.Bool.{eqb-true, eq-eqb}
+use Rattle.std.proofs.lemmas.Nat.{le-div}
+use Rattle.elf64_load.specs.Image.{ImageView}
+use Rattle.memory_contracts.specs.Protocol.Lines.{HomeRecord}
+use Rattle.directory.specs.Fresh.{AreMore, IsFresh}
+use Rattle.directory.specs.Homes.{with_at}
+use Rattle.directory.specs.Kept.{has_line, records_in}
+use Rattle.directory.specs.Start.{IsFirst}
+use Rattle.directory.specs.declared.records.Records.{Records}
+
+-- one more line, of which this is noted
+pub record IsAdded (line : ℕ) (h : HomeRecord) (old new : Records) : Type 0 where
+  pub lines : has_line new ≡ with_at (has_line old) line true
+  pub noted : records_in new ≡ with_at (records_in old) line h
+
+grown : (has : ℕ → Bool) (x k : ℕ) → has k ≡ true → with_at has x true k ≡ true
+grown has x k there = by (k == x)
+  where
+    by : (b : Bool) → cond b true (has k) ≡ true
+    by true = refl
+    by false = there
+
+first-with : (image : ImageView) (line_bytes line : ℕ) (h : HomeRecord) (has : ℕ → Bool) (records : ℕ → HomeRecord) → IsFirst image line_bytes line h → ((l : ℕ) → has l ≡ true → IsFirst image line_bytes l (records l)) →
+    (l : ℕ) → with_at has line true l ≡ true → IsFirst image line_bytes l (with_at records line h l)
+first-with image line_bytes line h has records first fresh l = by (l == line) refl
+  where
+    by : (b : Bool) → (l == line) ≡ b → cond b true (has l) ≡ true → IsFirst image line_bytes l (cond b h (records l))
+    by true e there = subst (λ k. IsFirst image line_bytes k h) (sym (eqb-true l line e)) first
+    by false e there = fresh l there
+
+pub AreMore-added : (image : ImageView) (line_bytes line : ℕ) (h : HomeRecord) (old new : Records) → IsAdded line h old new → IsFirst image line_bytes line h → IsFresh image line_bytes old → AreMore image line_bytes old new
+AreMore-added image line_bytes line h old new is first fresh = record {
+  fresh = λ l there.
+      subst (λ (records : ℕ → HomeRecord). IsFirst image line_bytes l (records l)) (sym is.noted)
+      (first-with image line_bytes line h (has_line old) (records_in old) first fresh l (sym (ap (λ (has : ℕ → Bool). has l) is.lines) ∙ there));
+  grows = λ l there. ap (λ (has : ℕ → Bool). has l) is.lines ∙ grown (has_line old) line l there;
+}
+
+pub there-added : (line : ℕ) (h : HomeRecord) (old new : Records) → IsAdded line h old new → has_line new line ≡ true
+there-added line h old new is = ap (λ (has : ℕ → Bool). has line) is.lines ∙ ap (λ b. cond b true (has_line old line)) (eq-eqb line line refl)
+
+-- lines follow each other as their bytes do
+pub line-rises : (a b line_bytes : ℕ) → 0 < line_bytes → a ≤ b → a / line_bytes ≤ b / line_bytes
+line-rises a b line_bytes some rises =
+    let low = div-mul-le_self a line_bytes in
+    le-div (a / line_bytes) b line_bytes some (omega (arith, low, rises))

@@ -1,0 +1,14 @@
+use Rattle.std.proofs.Common.{arith}
+use Rattle.elf64_load.specs.Layout.{spans}
+use Rattle.elf64_load.specs.declared.span.Span.{Span}
+use Rattle.directory.proofs.Lists.{any-at}
+use Rattle.directory.proofs.share.Share.add_spans.Goals as goal
+
+-- what the index past the end reads
+nowhere : Span
+nowhere = record { first = 0; len = 0; place = 0 }
+
+pub returns-clause-there : goal.returns-clause-there
+returns-clause-there c = λ a fits any share.
+    let (k, below, here) = any-at (spans a) c.args.order.now any in
+    c.loop-span.invariant.there k nowhere (omega arith) a fits (here nowhere) share

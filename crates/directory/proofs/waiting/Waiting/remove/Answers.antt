@@ -1,0 +1,7 @@
+use Rattle.std.proofs.Common.{map, ap, ◌∙◌}
+use Rattle.directory.specs.Kept.{letter_of}
+use Rattle.directory.proofs.Lists.{map-remove}
+use Rattle.directory.proofs.waiting.Waiting.remove.Goals as goal
+
+pub returns-clause-rest : goal.returns-clause-rest
+returns-clause-rest c = ap (map letter_of) c.remove.ensures.items ∙ map-remove letter_of c.args.self.now.requests.items c.args.place

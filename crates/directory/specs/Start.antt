@@ -1,0 +1,30 @@
+-- What a home begins with.
+use Rattle.std.specs.Prelude.{◌≡◌, ℕ, ◌+◌, ◌*◌, ◌/◌, ◌%◌, ◌^◌, ◌<◌, ◌≤◌, true, List, [], None, slice_index, length}
+use Rattle.elf64_load.specs.Image.{ImageView, byte_at, is_mapped}
+use Rattle.machine_config.specs.declared.config.Config.{Config}
+use Rattle.memory_contracts.specs.Protocol.Lines.{HomeRecord, Idle, nobody}
+use Rattle.directory.specs.Homes.{HomeView}
+
+-- the bytes of a line: those of the image as far as there are addresses, and zeros behind the line
+pub record AreFirst (image : ImageView) (line_bytes line : ℕ) (bytes : List ℕ) : Type 0 where
+  pub size : length bytes ≡ 128
+  pub image_bytes : (k : ℕ) → k < line_bytes → line * line_bytes + k < 2 ^ 64 → slice_index bytes k ≡ byte_at image (line * line_bytes + k)
+  pub behind : (k : ℕ) → line_bytes ≤ k → slice_index bytes k ≡ 0
+
+-- Nobody has the line or asks for it, and its bytes are the image's.
+pub record IsFirst (image : ImageView) (line_bytes line : ℕ) (h : HomeRecord) : Type 0 where
+  pub phase : h.phase ≡ Idle
+  pub owner : h.owner ≡ None
+  pub sharers : h.sharers ≡ nobody
+  pub bytes : AreFirst image line_bytes line h.memory
+
+-- The home of node h keeps each of its lines that has a mapped byte, nobody has any, and nothing waits or is to be sent.
+pub record IsStart (image : ImageView) (config : Config) (h : ℕ) (v : HomeView) : Type 0 where
+  pub lines : (a : ℕ) → a < 2 ^ 64 → is_mapped image a ≡ true → a / config.line % config.processors ≡ h → v.lines (a / config.line) ≡ true
+  pub records : (l : ℕ) → v.lines l ≡ true → IsFirst image config.line l (v.records l)
+  pub waiting : v.waiting ≡ []
+  pub outgoing : v.outgoing ≡ []
+  pub at : v.at ≡ h
+  pub nodes : v.nodes ≡ config.processors
+  pub protocol : v.protocol ≡ config.protocol
+  pub latency : v.latency ≡ config.home_latency

@@ -1,0 +1,17 @@
+//! The homes of lines: what each notes of its lines, and what it answers to the messages of nodes.
+#![tactic(auto)]
+
+mod home;
+mod line_record;
+mod node_set;
+mod outgoing;
+mod records;
+mod share;
+mod step;
+mod table;
+#[cfg(test)]
+mod tests;
+mod waiting;
+mod word;
+
+pub use home::Home;
