@@ -6,7 +6,7 @@ use Rattle.std.proofs.lemmas.Nat.{le-div}
 use Rattle.elf64_load.specs.Image.{ImageView}
 use Rattle.memory_contracts.specs.Protocol.Lines.{HomeRecord}
 use Rattle.directory.specs.Fresh.{AreMore, IsFresh}
-use Rattle.directory.specs.Homes.{with_at}
+use Rattle.memory_contracts.specs.Updates.{with_at}
 use Rattle.directory.specs.Kept.{has_line, records_in}
 use Rattle.directory.specs.Start.{IsFirst}
 use Rattle.directory.specs.declared.records.Records.{Records}

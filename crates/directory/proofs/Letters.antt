@@ -4,7 +4,8 @@ use Rattle.std.specs.List.{remove}
 use Rattle.std.proofs.lemmas.Bool.{eqb-true}
 use Rattle.std.proofs.lemmas.List.Quantifiers.{position-Some}
 use Rattle.std.proofs.lemmas.Option.{get_or_from_slice_get}
-use Rattle.directory.specs.Homes.{Letter, first_for}
+use Rattle.directory.specs.Homes.{first_for}
+use Rattle.memory_contracts.specs.Said.{Letter}
 use Rattle.directory.specs.Kept.{AreFrom}
 
 slice_get-push : {A : Type 0} (xs : List A) (x : A) (i : ℕ) (y : A) → slice_get (xs ++ x ∷ []) i ≡ Some y → (slice_get xs i ≡ Some y) ⊎ (x ≡ y)

@@ -4,7 +4,7 @@ use Rattle.std.specs.HashMap.{get}
 use Rattle.elf64_load.specs.Image.{ImageView}
 use Rattle.memory_contracts.specs.Protocol.Lines.{HomeRecord, Phase}
 use Rattle.directory.specs.Fresh.{IsFresh}
-use Rattle.directory.specs.Homes.{Letter}
+use Rattle.memory_contracts.specs.Said.{Letter}
 use Rattle.directory.specs.Kept.{AreFrom, AreKnown, records_in, unkept}
 use Rattle.directory.specs.Known.{AreBelow, IsKnown, owner_bound, phase_bound}
 use Rattle.directory.specs.Noted.{record_of}

@@ -5,7 +5,7 @@ use Rattle.machine_config.specs.declared.config.Protocol.{Protocol}
 use Rattle.memory_contracts.specs.Protocol.Messages.{Message, GetS, GetM, Put, Inv, Recall, Grant, PutAck, InvAck, RecallAck, Done}
 use Rattle.memory_contracts.specs.Protocol.Lines.{Phase, Idle, Collecting, Recalling, Granting, HomeRecord, besides, is_some_node, joined, nobody}
 use Rattle.memory_contracts.specs.Protocol.HomeTable.{HomeStep, collects, grants_owned, grants_shared, home_row, home_takes, is_mesi, is_owner, nothing, recalls, to_each, to_none, to_one, waiting}
-use Rattle.directory.specs.Homes.{with_at}
+use Rattle.memory_contracts.specs.Updates.{with_at}
 use Rattle.directory.specs.Kept.{AreKnown}
 use Rattle.directory.specs.Known.{AreBelow, IsKnown, owner_bound, phase_bound}
 

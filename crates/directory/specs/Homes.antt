@@ -5,12 +5,8 @@ use Rattle.machine_config.specs.declared.config.Protocol.{Protocol}
 use Rattle.memory_contracts.specs.Protocol.Messages.{Message}
 use Rattle.memory_contracts.specs.Protocol.Lines.{HomeRecord, Phase, Idle}
 use Rattle.memory_contracts.specs.Protocol.HomeTable.{home_takes}
-
--- what a node says about a line
-pub record Letter : Type 0 where
-  pub line : ℕ
-  pub from : ℕ
-  pub message : Message
+use Rattle.memory_contracts.specs.Said.{Letter, Mail}
+use Rattle.memory_contracts.specs.Updates.{with_at}
 
 -- what the home has to say about a line, and the tick in which that was taken which it answers
 pub record Post : Type 0 where
@@ -18,12 +14,6 @@ pub record Post : Type 0 where
   pub to : ℕ
   pub message : Message
   pub since : ℕ
-
--- what the home says to a node about a line
-pub record Mail : Type 0 where
-  pub line : ℕ
-  pub to : ℕ
-  pub message : Message
 
 abbrev pub mail_of : Post → Mail
 mail_of post = record { line = post.line; to = post.to; message = post.message }
@@ -43,10 +33,6 @@ pub record HomeView : Type 0 where
   pub waiting : List Letter
   -- the oldest first
   pub outgoing : List Post
-
--- f, but y at x
-abbrev pub with_at : {A : Type 0} → (ℕ → A) → ℕ → A → ℕ → A
-with_at f x y z = if z == x then y else f z
 
 -- ---- a message
 

@@ -1,14 +1,11 @@
 -- What the parts of a home stand for.
 use Rattle.std.specs.Prelude.{◌≡◌, ℕ, ◌<◌, nat_eq, Bool, List, [], map, slice_get, None, Some, is_some, option_map, unwrap_or}
 use Rattle.std.specs.HashMap.{get}
-use Rattle.rsim_base.specs.declared.memory.Node.{Node}
 use Rattle.memory_contracts.specs.Protocol.Lines.{HomeRecord, Idle, nobody}
-use Rattle.memory_contracts.specs.declared.message.Message.{Message}
-use Rattle.directory.specs.Homes.{Letter}
+use Rattle.memory_contracts.specs.Said.{Letter, letter_of}
 use Rattle.directory.specs.Homes as Homes
 use Rattle.directory.specs.Known.{IsKnown}
 use Rattle.directory.specs.Noted.{record_of, word_of}
-use Rattle.directory.specs.Said.{said}
 use Rattle.directory.specs.declared.outgoing.Outgoing.{Outgoing}
 use Rattle.directory.specs.declared.outgoing.Post.{Post}
 use Rattle.directory.specs.declared.records.Records.{Records}
@@ -31,9 +28,6 @@ AreKnown n records = (line : ℕ) → IsKnown n (records line)
 
 -- ---- requests that wait
 
-abbrev pub letter_of : Message → Letter
-letter_of m = record { line = m.line.0; from = m.from.0; message = said m }
-
 abbrev pub letters_in : Waiting → List Letter
 letters_in waiting = map letter_of waiting.requests.items
 
@@ -48,7 +42,3 @@ post_of post = record { line = post.line.0; to = post.to.0; message = word_of po
 
 abbrev pub posts_in : Outgoing → List Homes.Post
 posts_in outgoing = map post_of outgoing.posts.items
-
--- a message as it is handed out, with the node that it is for
-abbrev pub told : Node × Message → Homes.Mail
-told sent = record { line = sent.1.line.0; to = sent.0.0; message = said sent.1 }

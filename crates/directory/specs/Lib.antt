@@ -5,5 +5,4 @@ pub mod Kept
 pub mod Known
 pub mod NodeSets
 pub mod Noted
-pub mod Said
 pub mod Start

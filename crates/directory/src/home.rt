@@ -2,7 +2,8 @@
 ghost use Rattle.std.specs.Prelude.{◌≡◌, ◌+◌, ◌<◌, ◌≤◌, ◌*◌, drop, length, nat_le, option_map, true, IfOk, IfSome, OnSome};
 ghost use Rattle.machine_config.specs.Allowed.{IsAllowed};
 ghost use Rattle.directory.specs.Homes.{HomeView, Serves, first_outgoing, has_room, home_after, is_idle, mail_of, most_outgoing, most_waiting};
-ghost use Rattle.directory.specs.Kept.{AreFrom, AreKnown, letter_of, letters_in, records_in, told};
+ghost use Rattle.directory.specs.Kept.{AreFrom, AreKnown, letters_in, records_in};
+ghost use Rattle.memory_contracts.specs.Said.{letter_of, told};
 ghost use Rattle.directory.specs.Start.{IsStart};
 
 use crate::outgoing::{MOST_OUTGOING, Outgoing};

@@ -14,7 +14,7 @@ pub struct Records {
 }
 
 impl Records {
-    ghost use Rattle.directory.specs.Homes.{with_at};
+    ghost use Rattle.memory_contracts.specs.Updates.{with_at};
     ghost use Rattle.directory.specs.Kept.{has_line, records_in};
 
     /// No lines.

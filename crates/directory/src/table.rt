@@ -7,7 +7,7 @@ ghost use Rattle.memory_contracts.specs.Protocol.Messages as Says;
 ghost use Rattle.directory.specs.Known.{IsKnown};
 ghost use Rattle.directory.specs.NodeSets.{set_of};
 ghost use Rattle.directory.specs.Noted.{owner_of, record_of, step_of};
-ghost use Rattle.directory.specs.Said.{said};
+ghost use Rattle.memory_contracts.specs.Said.{said};
 
 use crate::line_record::{LinePhase, LineRecord};
 use crate::node_set::NodeSet;

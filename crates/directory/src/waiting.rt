@@ -18,7 +18,8 @@ pub struct Waiting {
 
 impl Waiting {
     ghost use Rattle.directory.specs.Homes.{first_for};
-    ghost use Rattle.directory.specs.Kept.{letter_of, letters_in};
+    ghost use Rattle.directory.specs.Kept.{letters_in};
+    ghost use Rattle.memory_contracts.specs.Said.{letter_of};
 
     /// No request, where so many may wait.
     ///

@@ -1,6 +1,6 @@
 // What a home says about a line.
 ghost use Rattle.std.specs.Prelude.{◌≡◌};
-ghost use Rattle.directory.specs.Said.{said};
+ghost use Rattle.memory_contracts.specs.Said.{said};
 
 use memory_contracts::{Message, MsgKind};
 use rsim_base::{Line, Node};

@@ -4,7 +4,8 @@ use Rattle.std.proofs.lemmas.Bool.{and_from, and_parts, eqb-true, eq-eqb}
 use Rattle.rsim_base.specs.declared.memory.Node.{Node}
 use Rattle.elf64_load.specs.Image.{ImageView, byte_at}
 use Rattle.memory_contracts.specs.First.{AreFirst}
-use Rattle.memory_contracts.specs.Parts.{AreFresh, AreMore, byte_of_all, doubleword_in, has_doubleword, has_line, has_place, owner_in, with_at}
+use Rattle.memory_contracts.specs.Parts.{AreFresh, AreMore, byte_of_all, doubleword_in, has_doubleword, has_line, has_place, owner_in}
+use Rattle.memory_contracts.specs.Updates.{with_at}
 use Rattle.memory_contracts.specs.declared.memory.Memory.{Memory}
 use Rattle.memory_contracts.specs.declared.owners.Owners.{Owners}
 

@@ -7,7 +7,8 @@ use Rattle.rsim_base.specs.Bytes.{byte_of, count_of}
 use Rattle.rsim_base.specs.declared.memory.Size.{Size}
 use Rattle.rsim_base.specs.declared.memory.Size.TheVariants.{B1, B2, B4, B8}
 use Rattle.memory_contracts.specs.Store.{stored, value_at}
-use Rattle.memory_contracts.specs.Parts.{byte_of_all, with_at}
+use Rattle.memory_contracts.specs.Parts.{byte_of_all}
+use Rattle.memory_contracts.specs.Updates.{with_at}
 
 -- an aligned access lies in one doubleword
 pub in_one_doubleword : (n : Size) (a : ℕ) → a % count_of n ≡ 0 → a % 8 + count_of n ≤ 8

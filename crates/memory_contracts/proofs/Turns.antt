@@ -3,7 +3,8 @@ use Rattle.std.proofs.Common.{◌≡◌, ℕ, zero, suc, ◌≤◌, ◌==◌, Bo
 use Rattle.std.specs.List.{All, slice_get}
 use Rattle.std.proofs.lemmas.List.{length-drop}
 use Rattle.memory_contracts.specs.Flat.{Moves, is_at, given, with_left, has_moved, turn, turn_with}
-use Rattle.memory_contracts.specs.Parts.{with_at, wishes_of}
+use Rattle.memory_contracts.specs.Parts.{wishes_of}
+use Rattle.memory_contracts.specs.Updates.{with_at}
 use Rattle.memory_contracts.specs.declared.wishes.Wanted.{Wanted}
 
 pub first-drop : (xs : List Wanted) (w : Wanted) → slice_get xs 0 ≡ Some w → xs ≡ w ∷ drop 1 xs

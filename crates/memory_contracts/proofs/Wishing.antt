@@ -2,7 +2,8 @@
 use Rattle.std.proofs.Common.{◌≡◌, ℕ, ◌<◌, ◌==◌, Bool, true, false, cond, List, [], ◌∷◌, ◌++◌, length, refl, sym, ap, ◌∙◌}
 use Rattle.std.proofs.lemmas.Bool.{eqb-true, lt-ltb}
 use Rattle.memory_contracts.specs.Store.{StoreView, after_wish, is_covered, with_wish}
-use Rattle.memory_contracts.specs.Parts.{wish_of, wishes_of, with_at}
+use Rattle.memory_contracts.specs.Parts.{wish_of, wishes_of}
+use Rattle.memory_contracts.specs.Updates.{with_at}
 use Rattle.memory_contracts.specs.declared.wishes.Wanted.{Wanted}
 use Rattle.memory_contracts.proofs.Turns.{wishes-with}
 

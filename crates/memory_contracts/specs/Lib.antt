@@ -10,6 +10,8 @@ pub mod Packets
 pub mod Parts
 pub mod Protocol
 pub mod Rooms
+pub mod Said
 pub mod Sound
 pub mod Start
 pub mod Store
+pub mod Updates

@@ -1,5 +1,5 @@
 -- The parts of a flat store: the doublewords of memory, the node that has each line, and the wishes of each node.
-use Rattle.std.specs.Prelude.{◌≡◌, ℕ, ◌+◌, ◌-◌, ◌≤◌, ◌<◌, ◌^◌, ◌/◌, ◌%◌, ◌==◌, ◌&&◌, nat_eq, nat_le, nat_lt, Bool, true, List, [], map, length, slice_index_or, Option, None, is_some, unwrap_or, if◌then◌else◌}
+use Rattle.std.specs.Prelude.{◌≡◌, ℕ, ◌+◌, ◌-◌, ◌≤◌, ◌<◌, ◌^◌, ◌/◌, ◌%◌, ◌&&◌, nat_eq, nat_le, nat_lt, Bool, true, List, [], map, length, slice_index_or, Option, None, is_some, unwrap_or, if◌then◌else◌}
 use Rattle.std.specs.HashMap.{get}
 use Rattle.std.specs.List.{All}
 use Rattle.arrayvec.specs.ArrayVec.{ArrayVec}
@@ -14,10 +14,6 @@ use Rattle.memory_contracts.specs.declared.memory.Memory.{Memory}
 use Rattle.memory_contracts.specs.declared.owners.Owners.{Owners}
 use Rattle.memory_contracts.specs.declared.wishes.Wanted.{Wanted}
 use Rattle.memory_contracts.specs.declared.wishes.Wishes.{Wishes}
-
--- f, but y at x
-abbrev pub with_at : {A : Type 0} → (ℕ → A) → ℕ → A → ℕ → A
-with_at f x y z = if z == x then y else f z
 
 -- ---- memory
 

@@ -3,7 +3,8 @@ ghost use Rattle.std.specs.Prelude.{◌≡◌, ◌+◌, ◌<◌, ◌≤◌, ◌=
 ghost use Rattle.std.specs.List.{list_any};
 ghost use Rattle.memory_contracts.specs.Flat as Flat;
 ghost use Rattle.memory_contracts.specs.Flat.{is_at, left_by};
-ghost use Rattle.memory_contracts.specs.Parts.{AreFew, AreKnown, AreTurns, has_line, moves_of, nodes_in, owner_in, with_at};
+ghost use Rattle.memory_contracts.specs.Parts.{AreFew, AreKnown, AreTurns, has_line, moves_of, nodes_in, owner_in};
+ghost use Rattle.memory_contracts.specs.Updates.{with_at};
 
 use crate::owners::Owners;
 use crate::store::LostList;

@@ -26,3 +26,4 @@ pub use flat::FlatStore;
 pub use laws::lines_stay_coherent;
 pub use message::{Class, Message, MsgKind};
 pub use store::{CoherentStore, LostList};
+pub use wishes::Wanted;

@@ -18,7 +18,8 @@ pub struct Memory {
 }
 
 impl Memory {
-    ghost use Rattle.memory_contracts.specs.Parts.{byte_in, doubleword_in, has_doubleword, with_at, IsPutInto};
+    ghost use Rattle.memory_contracts.specs.Parts.{byte_in, doubleword_in, has_doubleword, IsPutInto};
+    ghost use Rattle.memory_contracts.specs.Updates.{with_at};
 
     /// Memory in which nothing is kept.
     pub fn new(alloc: Global) -> Memory

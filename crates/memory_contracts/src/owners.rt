@@ -12,7 +12,8 @@ pub struct Owners {
 }
 
 impl Owners {
-    ghost use Rattle.memory_contracts.specs.Parts.{has_line, owner_in, with_at};
+    ghost use Rattle.memory_contracts.specs.Parts.{has_line, owner_in};
+    ghost use Rattle.memory_contracts.specs.Updates.{with_at};
 
     /// No lines.
     pub fn new(alloc: Global) -> Owners

@@ -2,7 +2,8 @@
 ghost use Rattle.std.specs.Prelude.{◌≡◌, ℕ, ◌<◌, [], ◌∷◌, ◌++◌, drop, length, slice_get, IfOk};
 ghost use Rattle.std.specs.List.{list_any};
 ghost use Rattle.memory_contracts.specs.Store.{covers};
-ghost use Rattle.memory_contracts.specs.Parts.{nodes_in, wanted_in, wish_of, wishes_in, with_at};
+ghost use Rattle.memory_contracts.specs.Parts.{nodes_in, wanted_in, wish_of, wishes_in};
+ghost use Rattle.memory_contracts.specs.Updates.{with_at};
 
 use arrayvec::ArrayVec;
 use rsim_base::{Line, NoMemory, Node};

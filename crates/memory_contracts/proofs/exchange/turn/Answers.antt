@@ -3,7 +3,8 @@ use Rattle.std.specs.List.{All}
 use Rattle.std.proofs.lemmas.List.Elements.{All-drop}
 use Rattle.memory_contracts.specs.Store.{Wish}
 use Rattle.memory_contracts.specs.Flat.{is_at}
-use Rattle.memory_contracts.specs.Parts.{has_line, moves_of, owner_in, wanted_in, wishes_of, with_at}
+use Rattle.memory_contracts.specs.Parts.{has_line, moves_of, owner_in, wanted_in, wishes_of}
+use Rattle.memory_contracts.specs.Updates.{with_at}
 use Rattle.memory_contracts.specs.declared.wishes.Wanted.{Wanted}
 use Rattle.memory_contracts.proofs.Turns.{few-with, known-first, known-with, length-tail, turn-keeps, turn-moves, turn-waits, wishes-with}
 use Rattle.memory_contracts.proofs.exchange.turn.Goals as goal

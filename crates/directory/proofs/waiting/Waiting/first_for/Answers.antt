@@ -1,8 +1,7 @@
 use Rattle.std.proofs.Common.{◌==◌, sym, ◌∙◌, ap}
 use Rattle.std.specs.List.{position}
 use Rattle.memory_contracts.specs.declared.message.Message.{Message}
-use Rattle.directory.specs.Homes.{Letter}
-use Rattle.directory.specs.Kept.{letter_of}
+use Rattle.memory_contracts.specs.Said.{Letter, letter_of}
 use Rattle.directory.proofs.Lists.{position-map}
 use Rattle.directory.proofs.waiting.Waiting.first_for.Goals as goal
 

@@ -1,5 +1,5 @@
 use Rattle.std.proofs.Common.{map, ap, ◌∙◌}
-use Rattle.directory.specs.Kept.{letter_of}
+use Rattle.memory_contracts.specs.Said.{letter_of}
 use Rattle.directory.proofs.Lists.{map-remove}
 use Rattle.directory.proofs.waiting.Waiting.remove.Goals as goal
 
