@@ -45,6 +45,13 @@ impl<T: Drop> LineTable<T> {
         Ok(LineTable { entries, places })
     }
 
+    /// Whether every place is taken.
+    pub fn is_full(&self) -> bool
+        ensures { result ≡ (finite.len self.now.lines == self.now.places) }
+    {
+        self.entries.len() == self.places as usize
+    }
+
     /// The value of a line that has a place.
     pub fn get(&self, line: Line) -> Option<&T>
         ensures { option_copied result ≡ finite.get self.now.lines line.0 }

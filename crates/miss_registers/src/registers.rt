@@ -60,6 +60,13 @@ impl MissRegisters {
         self.registers.insert(line, own)
     }
 
+    /// Whether every register is open.
+    pub fn is_full(&self) -> bool
+        ensures { result ≡ registers_full self.now }
+    {
+        self.registers.is_full()
+    }
+
     /// Whether the line has a register that asks for at least this. One that asks to own covers both.
     pub fn merge(&self, line: Line, own: bool) -> bool
         ensures { result ≡ covers (register_of self.now line.0) own }
@@ -73,6 +80,13 @@ impl MissRegisters {
         ensures after { self.new ≡ without_register line.0 self.old }
     {
         self.registers.remove(line)
+    }
+
+    /// Whether every slot is taken.
+    pub fn are_slots_full(&self) -> bool
+        ensures { result ≡ slots_full self.now }
+    {
+        self.victims.is_full()
     }
 
     /// Keeps the bytes of a line that has no slot in a free one.
