@@ -1,9 +1,6 @@
 pub mod Laws
-pub mod NodeViews
 pub mod Nodes
-pub mod Noted
 pub mod Rows
 pub mod Sides
 pub mod Sound
 pub mod Starting
-pub mod TableRows

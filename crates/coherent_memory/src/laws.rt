@@ -1,0 +1,49 @@
+//! Laws of the steps of a tick. Their functions do nothing of their own: a law is a contract.
+
+ghost use Rattle.coherent_memory.specs.Lost.{TurnTells, TurnsTell};
+ghost use Rattle.coherent_memory.specs.Rooms.{RoomStays, ServingGrows, ServingShortens, StartGrows, TakingGrows};
+ghost use Rattle.coherent_memory.specs.Laws.{BeginKeeps, CarryingKeeps, GrantsAwaited, HomeTakesKeeps, MailKeeps, NodeTakesKeeps, NothingKeeps, PostKeeps, ServingKeeps, WritingKeeps};
+
+use memory_contracts::lines_stay_coherent;
+
+/// Every step keeps each line coherent; only a write changes the content of a line, its own.
+pub fn steps_keep_lines()
+    ensures home { HomeTakesKeeps }
+    ensures serving { ServingKeeps }
+    ensures post { PostKeeps }
+    ensures mail { MailKeeps }
+    ensures carrying { CarryingKeeps }
+    ensures nothing { NothingKeeps }
+    ensures awaited { GrantsAwaited }
+{
+    lines_stay_coherent();
+}
+
+/// So do those of a node.
+pub fn nodes_keep_lines()
+    ensures node { NodeTakesKeeps }
+    ensures begin { BeginKeeps }
+    ensures write { WritingKeeps }
+{
+    lines_stay_coherent();
+}
+
+/// A home that has room for a message has room for what it sends, and for what it sends to those that waited.
+pub fn rooms_suffice()
+    ensures start { StartGrows }
+    ensures taking { TakingGrows }
+    ensures serving { ServingGrows }
+    ensures room { RoomStays }
+    ensures shorter { ServingShortens }
+{
+    lines_stay_coherent();
+}
+
+/// A turn tells the lines that leave its node, each once.
+pub fn turns_tell()
+    ensures turn { TurnTells }
+    ensures turns { TurnsTell }
+{
+    steps_keep_lines();
+    nodes_keep_lines();
+}

@@ -1,0 +1,4 @@
+//! A memory of caches and a directory that nodes share, over any carrier of messages.
+#![tactic(auto)]
+
+mod laws;
