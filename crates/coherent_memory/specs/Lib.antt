@@ -1,6 +1,9 @@
 pub mod Fine
+pub mod HomeRows
 pub mod Laws
 pub mod Lost
 pub mod Rooms
+pub mod Rows
+pub mod Stores
 pub mod Systems
 pub mod Turns

@@ -1,4 +1,5 @@
 //! A memory of caches and a directory that nodes share, over any carrier of messages.
 #![tactic(auto)]
 
+mod homes;
 mod laws;

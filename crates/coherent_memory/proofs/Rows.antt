@@ -1,0 +1,61 @@
+-- Parts of a list as functions of their numbers: one part read, one changed, and one added.
+use Rattle.std.proofs.Common.{◌≡◌, ℕ, zero, suc, ◌<◌, ◌==◌, Bool, true, false, cond, List, [], ◌∷◌, ◌++◌, slice_get, get_or, set, length, Option, Some, length-append, refl, sym, ap, subst, ◌∙◌, arith}
+use Rattle.std.specs.Option.{option_map_or}
+use Rattle.std.proofs.lemmas.Bool.{eqb-true}
+use Rattle.std.proofs.lemmas.Bool.Decides.{nat_tests}
+use Rattle.std.proofs.lemmas.Option.{slice_get-get_or}
+use Rattle.memory_contracts.specs.Updates.{with_at}
+use Rattle.coherent_memory.specs.Rows.{rows_of}
+
+slice_get-set_same : {X : Type 0} (xs : List X) (i : ℕ) (x : X) → i < length xs → slice_get (set xs i x) i ≡ Some x
+slice_get-set_same [] i x h = absurd (omega arith)
+slice_get-set_same (y ∷ ys) zero x h = refl
+slice_get-set_same (y ∷ ys) (suc i) x h = slice_get-set_same ys i x (omega arith)
+
+slice_get-set_other : {X : Type 0} (xs : List X) (i j : ℕ) (x : X) → (j ≡ i → ⊥) → slice_get (set xs i x) j ≡ slice_get xs j
+slice_get-set_other [] i j x ne = refl
+slice_get-set_other (y ∷ ys) zero zero x ne = absurd (ne refl)
+slice_get-set_other (y ∷ ys) zero (suc j) x ne = refl
+slice_get-set_other (y ∷ ys) (suc i) zero x ne = refl
+slice_get-set_other (y ∷ ys) (suc i) (suc j) x ne = slice_get-set_other ys i j x (λ e. ne (ap suc e))
+
+slice_get-pushed : {X : Type 0} (xs : List X) (x : X) → slice_get (xs ++ x ∷ []) (length xs) ≡ Some x
+slice_get-pushed [] x = refl
+slice_get-pushed (y ∷ ys) x = slice_get-pushed ys x
+
+slice_get-before : {X : Type 0} (xs : List X) (x : X) (j : ℕ) → j < length xs → slice_get (xs ++ x ∷ []) j ≡ slice_get xs j
+slice_get-before [] x j below = absurd (omega (arith, below))
+slice_get-before (y ∷ ys) x zero below = refl
+slice_get-before (y ∷ ys) x (suc j) below = slice_get-before ys x j (omega (arith, below))
+
+module _ {A B : Type 0} (view : A → B) (none : B) where
+  abbrev seen : Option A → B
+  seen o = option_map_or view o none
+
+  pub rows_of-at : (xs : List A) (p : ℕ) (d : A) → p < length xs → rows_of view none xs p ≡ view (get_or xs p d)
+  rows_of-at xs p d below = ap seen (slice_get-get_or xs p d below)
+
+  set-at : (xs : List A) (p q : ℕ) (x : A) → p < length xs → (b : Bool) → (q == p) ≡ b → rows_of view none (set xs p x) q ≡ cond b (view x) (rows_of view none xs q)
+  set-at xs p q x below true same = subst (λ (j : ℕ). rows_of view none (set xs p x) j ≡ view x) (sym (eqb-true q p same)) (ap seen (slice_get-set_same xs p x below))
+  set-at xs p q x below false other = ap seen (slice_get-set_other xs p q x (λ same. grind (arith, nat_tests, same, other)))
+
+  pub rows_of-set : (xs : List A) (p : ℕ) (x : A) → p < length xs → rows_of view none (set xs p x) ≡ with_at (rows_of view none xs) p (view x)
+  rows_of-set xs p x below = λ i q. set-at xs p q x below (q == p) refl i
+
+  pub rows_of-pushed : (xs : List A) (x : A) → rows_of view none (xs ++ x ∷ []) (length xs) ≡ view x
+  rows_of-pushed xs x = ap seen (slice_get-pushed xs x)
+
+  pub rows_of-before : (xs : List A) (x : A) (q : ℕ) → q < length xs → rows_of view none (xs ++ x ∷ []) q ≡ rows_of view none xs q
+  rows_of-before xs x q below = ap seen (slice_get-before xs x q below)
+
+  -- a property of all parts, with one more
+  pub rows_of-more : (P : ℕ → B → Type 0) (xs : List A) (x : A) → ((q : ℕ) → q < length xs → P q (rows_of view none xs q)) → P (length xs) (view x) → (q : ℕ) → q < length (xs ++ x ∷ []) → P q (rows_of view none (xs ++ x ∷ []) q)
+  rows_of-more P xs x each last q below = by (q == length xs) refl
+    where
+      by : (b : Bool) → (q == length xs) ≡ b → P q (rows_of view none (xs ++ x ∷ []) q)
+      by true same =
+          let e = eqb-true q (length xs) same in
+          subst (λ (j : ℕ). P j (rows_of view none (xs ++ x ∷ []) j)) (sym e) (subst (λ (y : B). P (length xs) y) (sym (rows_of-pushed xs x)) last)
+      by false other =
+          let under : q < length xs = let n = length-append xs (x ∷ []) in grind (arith, nat_tests, below, other, n) in
+          subst (λ (y : B). P q y) (sym (rows_of-before xs x q under)) (each q under)
