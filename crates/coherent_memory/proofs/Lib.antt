@@ -1,2 +1,6 @@
+mod Addresses
 mod Rows
 mod Sizes
+mod Soundness
+mod Stored
+mod Values

@@ -4,6 +4,7 @@ pub mod Laws
 pub mod Lost
 pub mod Rooms
 pub mod Rows
+pub mod Sending
 pub mod Stores
 pub mod Systems
 pub mod Turns
