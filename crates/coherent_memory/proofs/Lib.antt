@@ -1,0 +1,6 @@
+pub mod Alike
+pub mod Places
+pub mod Lines
+pub mod Adding
+pub mod Rights
+pub mod Keeping
