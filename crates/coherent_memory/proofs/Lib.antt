@@ -1,7 +1,12 @@
+pub mod Adding
+pub mod Alike
 pub mod Counting
+pub mod Keeping
 pub mod Leaving
+pub mod Lines
 pub mod Lost
 pub mod NodeLaws
 pub mod Places
+pub mod Rights
 pub mod Rooms
 pub mod Turning

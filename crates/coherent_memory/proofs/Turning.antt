@@ -1,7 +1,7 @@
 -- A turn tells the lines that leave its node.
 use Rattle.std.proofs.Common.{◌≡◌, ◌≢◌, ℕ, suc, ◌+◌, ◌<◌, ◌≤◌, ◌==◌, Bool, true, false, cond, ◌&&◌, ◌||◌, not, List, [], ◌∷◌, ◌++◌, length, slice_get, Some, refl, sym, ap, subst, ◌∙◌, true≢false, arith, length-append}
 use Rattle.std.specs.List.{list_any}
-use Rattle.std.proofs.lemmas.Bool.{eqb-true, eq-eqb}
+use Rattle.std.proofs.lemmas.Bool.{eqb-true, eq-eqb, ne_eqb}
 use Rattle.std.proofs.lemmas.Bool.Decides.{nat_tests}
 use Rattle.std.proofs.lemmas.List.{length-map}
 use Rattle.rsim_base.specs.declared.memory.Line.{Line}
@@ -28,7 +28,7 @@ use Rattle.coherent_memory.proofs.Lost.{AreOneWay, are_lines, gone-from_node, go
 use Rattle.coherent_memory.proofs.NodeLaws.{NodeLaws}
 
 use Rattle.coherent_memory.proofs.Leaving.{LeavesOne, LeavesWith, begin-leaves, message-leaves}
-use Rattle.coherent_memory.proofs.Places.{at-other, at-same}
+use Rattle.coherent_memory.proofs.Places.{with_at-other, with_at-same}
 
 -- ---- what is sent changes no copy
 
@@ -44,7 +44,7 @@ record KeepsCopies (p : ℕ) (s t : System) : Type 0 where
 
 keeps-mail : (p : ℕ) (s : System) → KeepsCopies p s (without_mail p s)
 keeps-mail p s = record {
-  others = λ q other. at-other s.nodes p (without_first_mail (s.nodes p)) q other;
+  others = λ q other. with_at-other s.nodes p (without_first_mail (s.nodes p)) q (ne_eqb q p other);
   copies = λ q l. by q l (q == p) refl;
 }
   where
@@ -72,7 +72,7 @@ module _ (laws : NodeLaws) (begin_keeps : BeginKeeps) (granted_awaited : GrantsA
 
   begun-leaves : LeavesOne (side_of (s.nodes p)) (side_of ((begun p now s).nodes p)) (begins now (s.nodes p)).lost
   begun-leaves =
-      subst (λ (v : NodeView). LeavesOne (side_of (s.nodes p)) (side_of v) (begins now (s.nodes p)).lost) (sym (at-same s.nodes p (begins now (s.nodes p)).after))
+      subst (λ (v : NodeView). LeavesOne (side_of (s.nodes p)) (side_of v) (begins now (s.nodes p)).lost) (sym (with_at-same s.nodes p (begins now (s.nodes p)).after))
       (begin-leaves (s.nodes p).wishes (side_of (s.nodes p)) (side_of (begins now (s.nodes p)).after) (begins now (s.nodes p)).lost (laws.begin now (s.nodes p) sound))
 
   begun-gone : AreGone s (begun p now s) (lost_at_begin p now s)
@@ -103,7 +103,7 @@ module _ (laws : NodeLaws) (granted_awaited : GrantsAwaited) (n p now : ℕ) (s 
 
     node-leaves : LeavesWith (letter_of f.message) (side_of (s.nodes p)) (side_of ((takes_at p f.message (without_flight i s)).nodes p)) (lost_at (letter_of f.message) (s.nodes p))
     node-leaves =
-        subst (λ (v : NodeView). LeavesWith (letter_of f.message) (side_of (s.nodes p)) (side_of v) (lost_at (letter_of f.message) (s.nodes p))) (sym (at-same s.nodes p (after_message (letter_of f.message) (s.nodes p))))
+        subst (λ (v : NodeView). LeavesWith (letter_of f.message) (side_of (s.nodes p)) (side_of v) (lost_at (letter_of f.message) (s.nodes p))) (sym (with_at-same s.nodes p (after_message (letter_of f.message) (s.nodes p))))
         (subst (λ (x : Side). LeavesWith (letter_of f.message) (side_of (s.nodes p)) x (lost_at (letter_of f.message) (s.nodes p))) (sym (laws.message (letter_of f.message) (s.nodes p) sound awaited-if))
         (message-leaves (letter_of f.message) (side_of (s.nodes p))))
 
@@ -111,9 +111,9 @@ module _ (laws : NodeLaws) (granted_awaited : GrantsAwaited) (n p now : ℕ) (s 
     node-taken = record {
       told =
           subst (λ x. AreGone s (takes_at p f.message (without_flight i s)) (left_from x (lost_at (letter_of f.message) (s.nodes p)))) (sym (fine.right.nodes p below).at)
-          (gone-from_node p s (takes_at p f.message (without_flight i s)) (lost_at (letter_of f.message) (s.nodes p)) (λ q other. at-other s.nodes p (after_message (letter_of f.message) (s.nodes p)) q other) node-leaves.exactly node-leaves.few);
+          (gone-from_node p s (takes_at p f.message (without_flight i s)) (lost_at (letter_of f.message) (s.nodes p)) (λ q other. with_at-other s.nodes p (after_message (letter_of f.message) (s.nodes p)) q (ne_eqb q p other)) node-leaves.exactly node-leaves.few);
       few = let long = left-length (s.nodes p).at (lost_at (letter_of f.message) (s.nodes p)) in let one = node-leaves.few in omega (arith, long, one);
-      others = λ q other. at-other s.nodes p (after_message (letter_of f.message) (s.nodes p)) q other;
+      others = λ q other. with_at-other s.nodes p (after_message (letter_of f.message) (s.nodes p)) q (ne_eqb q p other);
       comes = λ l gone there. let (same, grants) = node-leaves.comes l gone there in ap (awaits (s.nodes p)) same ∙ awaited-if grants;
     }
 
