@@ -6,7 +6,9 @@ pub mod Leaving
 pub mod Lines
 pub mod Lost
 pub mod NodeLaws
+pub mod NodeSteps
 pub mod Places
 pub mod Rights
 pub mod Rooms
+pub mod Sides
 pub mod Turning

@@ -68,7 +68,7 @@ module _ (laws : NodeLaws) (begin_keeps : BeginKeeps) (granted_awaited : GrantsA
   fine-begun = (begin_keeps n p now s fine below sound).fine
 
   others-begun : (q : ℕ) → q ≢ p → (begun p now s).nodes q ≡ s.nodes q
-  others-begun q other = at-other s.nodes p (begins now (s.nodes p)).after q other
+  others-begun q other = with_at-other s.nodes p (begins now (s.nodes p)).after q (ne_eqb q p other)
 
   begun-leaves : LeavesOne (side_of (s.nodes p)) (side_of ((begun p now s).nodes p)) (begins now (s.nodes p)).lost
   begun-leaves =
