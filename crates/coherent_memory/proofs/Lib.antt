@@ -1,6 +1,7 @@
 mod Addresses
-mod Rows
+mod PartRows
 mod Sizes
+pub mod Quiet
 mod Soundness
 mod Stored
 mod Values

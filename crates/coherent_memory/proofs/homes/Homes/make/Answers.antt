@@ -5,7 +5,7 @@ use Rattle.directory.specs.Start.{IsStart}
 use Rattle.directory.specs.declared.home.Home.{Home}
 use Rattle.coherent_memory.specs.HomeRows.{no_home}
 use Rattle.coherent_memory.specs.Rows.{rows_of}
-use Rattle.coherent_memory.proofs.Rows.{rows_of-more}
+use Rattle.coherent_memory.proofs.PartRows.{rows_of-more}
 use Rattle.coherent_memory.proofs.Sizes.{sizes_of}
 use Rattle.coherent_memory.proofs.homes.Homes.make.Goals as goal
 

@@ -2,7 +2,7 @@ use Rattle.std.proofs.Common.{◌≡◌, sym, ap, subst, ◌∙◌}
 use Rattle.directory.specs.HomeViews.{home_of}
 use Rattle.directory.specs.Homes.{HomeView, Serves}
 use Rattle.coherent_memory.specs.HomeRows.{homes_in, no_home}
-use Rattle.coherent_memory.proofs.Rows.{rows_of-at, rows_of-set}
+use Rattle.coherent_memory.proofs.PartRows.{rows_of-at, rows_of-set}
 use Rattle.coherent_memory.proofs.homes.Homes.serve.Goals as goal
 
 pub returns-clause-serves : goal.returns-clause-serves

@@ -1,0 +1,152 @@
+-- What a turn leaves as it is: other nodes, the carrier's time, how many bytes a line has; and what it fetches it fetches now.
+use Rattle.std.proofs.Common.{◌≡◌, ◌≢◌, ℕ, suc, ◌+◌, ◌<◌, ◌≤◌, ◌==◌, All, Bool, true, false, cond, List, [], ◌∷◌, ◌++◌, Option, None, Some, slice_get, refl, sym, ap, subst, ◌∙◌, append-nil, arith}
+use Rattle.std.specs.Option.{option_map_or}
+use Rattle.std.proofs.lemmas.Bool.{cond_both, ne_eqb}
+use Rattle.std.proofs.lemmas.List.Elements.{All-append}
+use Rattle.rsim_base.specs.declared.memory.Line.{Line}
+use Rattle.rsim_base.specs.declared.memory.Node.{Node}
+use Rattle.memory_contracts.specs.Carrier.{CarrierView, after_send}
+use Rattle.memory_contracts.specs.Said.{Letter, letter_of}
+use Rattle.memory_contracts.specs.Store.{Wish}
+use Rattle.cache_sets.specs.Caches.{room_for, with_reserved}
+use Rattle.cache_sets.specs.Ways.{Way}
+use Rattle.cache_levels.specs.Levels.{LevelsView, brought, filled_line, held, with_room, without_victim}
+use Rattle.cache_levels.specs.declared.levels.Evicted.{Evicted}
+use Rattle.node_memory.specs.Nodes.{Coming, NodeView, without_first_mail}
+use Rattle.node_memory.specs.Rows.{after_message, change_at, levels_after}
+use Rattle.node_memory.specs.Sound.{AreBefore}
+use Rattle.node_memory.specs.Starting.{Arrival, Begun, arrive, arrived, begins, first_begins, has_to_wait, is_due, meets, near_if_held, starts, starts_absent, uncovered, with_put}
+use Rattle.node_memory.specs.declared.table.Change.{Change}
+use Rattle.node_memory.specs.declared.table.Change.TheVariants.{Nothing, Lose, Share, Fill, EmptySlot, FreeSlot}
+use Rattle.coherent_memory.specs.Systems.{System}
+use Rattle.coherent_memory.specs.Turns.{HomeSends, NodeSends, Receives, Turn, begun, by_home, by_node, ends, full, node_takes, nothing, posted, refused, sends, without_flight, without_mail, without_post}
+use Rattle.coherent_memory.proofs.Places.{with_at-other, with_at-same}
+
+-- ---- the node whose turn it is
+
+-- what holds of a node before its turn, and after each part of it
+pub record Lasts (now : ℕ) (P Q : NodeView → Type 0) : Type 0 where
+  pub begin : (v : NodeView) → P v → Q (begins now v).after
+  pub message : (m : Letter) (v : NodeView) → Q v → Q (after_message m v)
+  pub sent : (v : NodeView) → Q v → Q (without_first_mail v)
+
+module _ (now : ℕ) (P Q : NodeView → Type 0) (lasts : Lasts now P Q) (p : ℕ) where
+  at_begin : (s : System) → P (s.nodes p) → Q ((begun p now s).nodes p)
+  at_begin s is = subst Q (sym (with_at-same s.nodes p (begins now (s.nodes p)).after)) (lasts.begin (s.nodes p) is)
+
+  at_receive : (s t : System) (told : List (Node × Line)) → Receives p now s t told → Q (s.nodes p) → Q (t.nodes p)
+  at_receive s t _ (full packed same) is = subst (λ (u : System). Q (u.nodes p)) (sym same) is
+  at_receive s t _ (nothing yes none same) is = subst (λ (u : System). Q (u.nodes p)) (sym same) is
+  at_receive s t _ (by_home i f yes next stands to kind takes) is = let (home, serves, same) = takes in subst (λ (u : System). Q (u.nodes p)) (sym same) is
+  at_receive s t _ (by_node i f yes next stands to kind same) is =
+      subst (λ (u : System). Q (u.nodes p)) (sym same) (subst Q (sym (with_at-same s.nodes p (after_message (letter_of f.message) (s.nodes p)))) (lasts.message (letter_of f.message) (s.nodes p) is))
+
+  at_home : (s t : System) → HomeSends p now s t → Q (s.nodes p) → Q (t.nodes p)
+  at_home _ _ (ends s none) is = is
+  at_home _ _ (refused s mail m next says packed) is = is
+  at_home _ _ (sends s t mail m next says free rest) is = at_home (without_post p (posted p mail.to m s)) t rest is
+
+  at_node : (s t : System) → NodeSends p s t → Q (s.nodes p) → Q (t.nodes p)
+  at_node _ _ (ends s none) is = is
+  at_node _ _ (refused s mail m next says packed) is = is
+  at_node _ _ (sends s t mail m next says free rest) is =
+      at_node (without_mail p (posted p mail.to m s)) t rest (subst Q (sym (with_at-same s.nodes p (without_first_mail (s.nodes p)))) (lasts.sent (s.nodes p) is))
+
+  pub turn-node : (s t : System) (gone : List (Node × Line)) → Turn p now s t gone → P (s.nodes p) → Q (t.nodes p)
+  turn-node s t gone turn is = at_node turn.sent t turn.node (at_home turn.taken turn.sent turn.home (at_receive (begun p now s) turn.taken turn.told turn.receives (at_begin s is)))
+
+-- ---- other nodes
+
+module _ (p : ℕ) (q : ℕ) (other : q ≢ p) where
+  receive-others : (now : ℕ) (s t : System) (told : List (Node × Line)) → Receives p now s t told → t.nodes q ≡ s.nodes q
+  receive-others now s t _ (full packed same) = ap (λ (u : System). u.nodes q) same
+  receive-others now s t _ (nothing yes none same) = ap (λ (u : System). u.nodes q) same
+  receive-others now s t _ (by_home i f yes next stands to kind takes) = let (home, serves, same) = takes in ap (λ (u : System). u.nodes q) same
+  receive-others now s t _ (by_node i f yes next stands to kind same) =
+      ap (λ (u : System). u.nodes q) same ∙ with_at-other s.nodes p (after_message (letter_of f.message) (s.nodes p)) q (ne_eqb q p other)
+
+  home-others : (now : ℕ) (s t : System) → HomeSends p now s t → t.nodes q ≡ s.nodes q
+  home-others now _ _ (ends s none) = refl
+  home-others now _ _ (refused s mail m next says packed) = refl
+  home-others now _ _ (sends s t mail m next says free rest) = home-others now (without_post p (posted p mail.to m s)) t rest
+
+  node-others : (s t : System) → NodeSends p s t → t.nodes q ≡ s.nodes q
+  node-others _ _ (ends s none) = refl
+  node-others _ _ (refused s mail m next says packed) = refl
+  node-others _ _ (sends s t mail m next says free rest) =
+      node-others (without_mail p (posted p mail.to m s)) t rest ∙ with_at-other s.nodes p (without_first_mail (s.nodes p)) q (ne_eqb q p other)
+
+  pub turn-others : (now : ℕ) (s t : System) (gone : List (Node × Line)) → Turn p now s t gone → t.nodes q ≡ s.nodes q
+  turn-others now s t gone turn =
+      node-others turn.sent t turn.node
+      ∙ (home-others now turn.taken turn.sent turn.home
+      ∙ (receive-others now (begun p now s) turn.taken turn.told turn.receives ∙ with_at-other s.nodes p (begins now (s.nodes p)).after q (ne_eqb q p other)))
+
+-- ---- the carrier's time
+
+send-ticks : (c : CarrierView) (p to : ℕ) (m : _) → (after_send c p to m).ticks ≡ c.ticks
+send-ticks c p to m = cond_both _ c _ (λ (d : CarrierView). d.ticks ≡ c.ticks) (λ _. refl) (λ _. refl)
+
+receive-ticks : (p now : ℕ) (s t : System) (told : List (Node × Line)) → Receives p now s t told → t.carrier.ticks ≡ s.carrier.ticks
+receive-ticks p now s t _ (full packed same) = ap (λ (u : System). u.carrier.ticks) same
+receive-ticks p now s t _ (nothing yes none same) = ap (λ (u : System). u.carrier.ticks) same
+receive-ticks p now s t _ (by_home i f yes next stands to kind takes) = let (home, serves, same) = takes in ap (λ (u : System). u.carrier.ticks) same
+receive-ticks p now s t _ (by_node i f yes next stands to kind same) = ap (λ (u : System). u.carrier.ticks) same
+
+home-ticks : (p now : ℕ) (s t : System) → HomeSends p now s t → t.carrier.ticks ≡ s.carrier.ticks
+home-ticks p now _ _ (ends s none) = refl
+home-ticks p now _ _ (refused s mail m next says packed) = refl
+home-ticks p now _ _ (sends s t mail m next says free rest) = home-ticks p now (without_post p (posted p mail.to m s)) t rest ∙ send-ticks s.carrier p mail.to m
+
+node-ticks : (p : ℕ) (s t : System) → NodeSends p s t → t.carrier.ticks ≡ s.carrier.ticks
+node-ticks p _ _ (ends s none) = refl
+node-ticks p _ _ (refused s mail m next says packed) = refl
+node-ticks p _ _ (sends s t mail m next says free rest) = node-ticks p (without_mail p (posted p mail.to m s)) t rest ∙ send-ticks s.carrier p mail.to m
+
+pub turn-ticks : (p now : ℕ) (s t : System) (gone : List (Node × Line)) → Turn p now s t gone → t.carrier.ticks ≡ s.carrier.ticks
+turn-ticks p now s t gone turn = node-ticks p turn.sent t turn.node ∙ (home-ticks p now turn.taken turn.sent turn.home ∙ receive-ticks p now (begun p now s) turn.taken turn.told turn.receives)
+
+-- ---- the beginning of a turn, by the parts of a node
+
+-- of the wishes, only one that is met fetches a line; the caches keep the size of lines
+pub record Begins (now : ℕ) (v w : NodeView) : Type 0 where
+  pub bytes : w.levels.line_bytes ≡ v.levels.line_bytes
+  pub more : List Coming
+  pub coming : w.coming ≡ v.coming ++ more
+  pub since : All (λ (c : Coming). c.since ≡ now) more
+
+nothing-comes : (now : ℕ) (v w : NodeView) → w.levels.line_bytes ≡ v.levels.line_bytes → w.coming ≡ v.coming → Begins now v w
+nothing-comes now v w bytes coming = record { bytes = bytes; more = []; coming = coming ∙ sym (append-nil v.coming); since = λ k d below. absurd (omega (arith, below)) }
+
+-- the size of lines through a choice
+chosen-bytes : (o : Option Way) (f : Way → LevelsView) (levels : LevelsView) → ((way : Way) → (f way).line_bytes ≡ levels.line_bytes) → (option_map_or f o levels).line_bytes ≡ levels.line_bytes
+chosen-bytes None f levels same = refl
+chosen-bytes (Some way) f levels same = same way
+
+room-bytes : (line : ℕ) (levels : LevelsView) → (with_room line levels).line_bytes ≡ levels.line_bytes
+room-bytes line levels =
+    chosen-bytes (room_for line levels.second) (λ way. record levels { first = without_victim way.line levels.first; second = with_reserved line levels.second }) levels (λ way. refl)
+
+near-bytes : (line : ℕ) (levels : LevelsView) → (near_if_held line levels).line_bytes ≡ levels.line_bytes
+near-bytes line levels = cond_both (held line levels) (brought line levels) levels (λ (x : LevelsView). x.line_bytes ≡ levels.line_bytes) (λ _. refl) (λ _. refl)
+
+-- lines that arrive are no longer on their way
+record Arrives (now : ℕ) (coming left : List Coming) (levels after : LevelsView) : Type 0 where
+  pub bytes : after.line_bytes ≡ levels.line_bytes
+  pub before : AreBefore now coming → AreBefore now left
+
+arrive-keeps : (latency now : ℕ) (coming : List Coming) (levels : LevelsView) → Arrives now coming (arrive latency now coming levels).coming levels (arrive latency now coming levels).levels
+arrive-keeps latency now [] levels = record { bytes = refl; before = λ all. all }
+arrive-keeps latency now (c ∷ cs) levels = by (is_due latency now c) refl
+  where
+    rest : AreBefore now (c ∷ cs) → AreBefore now cs
+    rest all k d below = all (suc k) d (omega (arith, below))
+
+    by : (b : Bool) → is_due latency now c ≡ b → Arrives now (c ∷ cs) (arrive latency now (c ∷ cs) levels).coming levels (arrive latency now (c ∷ cs) levels).levels
+    by true e =
+        let more = arrive-keeps latency now cs (near_if_held c.line levels) in
+        let same = ap (λ b. cond b (arrive latency now cs (near_if_held c.line levels)) (record { levels = levels; coming = c ∷ cs })) (sym e) in
+        subst (λ (a : Arrival). Arrives now (c ∷ cs) a.coming levels a.levels) same (record { bytes = more.bytes ∙ near-bytes c.line levels; before = λ all. more.before (rest all) })
+    by false e =
+        let same = ap (λ b. cond b (arrive latency now cs (near_if_held c.line levels)) (record { levels = levels; coming = c ∷ cs })) (sym e) in
+        subst (λ (a : Arrival). Arrives now (c ∷ cs) a.coming levels a.levels) same (record { bytes = refl; before = λ all. all })
