@@ -4,3 +4,5 @@ pub mod Lines
 pub mod Adding
 pub mod Rights
 pub mod Keeping
+pub mod Moving
+pub mod Staying
