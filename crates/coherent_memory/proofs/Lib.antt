@@ -6,3 +6,4 @@ pub mod Rights
 pub mod Keeping
 pub mod Moving
 pub mod Staying
+pub mod Awaiting
