@@ -7,3 +7,5 @@ pub mod Keeping
 pub mod Moving
 pub mod Staying
 pub mod Awaiting
+pub mod Rows
+pub mod HomeSteps
