@@ -1,5 +1,5 @@
 -- What a turn leaves as it is: other nodes, the carrier's time, how many bytes a line has; and what it fetches it fetches now.
-use Rattle.std.proofs.Common.{◌≡◌, ◌≢◌, ℕ, suc, ◌+◌, ◌<◌, ◌≤◌, ◌==◌, All, Bool, true, false, cond, List, [], ◌∷◌, ◌++◌, Option, None, Some, slice_get, refl, sym, ap, subst, ◌∙◌, append-nil, arith}
+use Rattle.std.proofs.Common.{◌≡◌, ◌≢◌, ℕ, zero, suc, ◌+◌, ◌<◌, ◌≤◌, ◌==◌, All, Bool, true, false, cond, List, [], ◌∷◌, ◌++◌, Option, None, Some, slice_get, refl, sym, ap, subst, ◌∙◌, append-nil, arith}
 use Rattle.std.specs.Option.{option_map_or}
 use Rattle.std.proofs.lemmas.Bool.{cond_both, ne_eqb}
 use Rattle.std.proofs.lemmas.List.Elements.{All-append}
@@ -8,14 +8,14 @@ use Rattle.rsim_base.specs.declared.memory.Node.{Node}
 use Rattle.memory_contracts.specs.Carrier.{CarrierView, after_send}
 use Rattle.memory_contracts.specs.Said.{Letter, letter_of}
 use Rattle.memory_contracts.specs.Store.{Wish}
-use Rattle.cache_sets.specs.Caches.{room_for, with_reserved}
+use Rattle.cache_sets.specs.Caches.{reserved_slot, room_for, with_reserved}
 use Rattle.cache_sets.specs.Ways.{Way}
-use Rattle.cache_levels.specs.Levels.{LevelsView, brought, filled_line, held, with_room, without_victim}
+use Rattle.cache_levels.specs.Levels.{LevelsView, brought, evicted, held, with_room, without_victim}
 use Rattle.cache_levels.specs.declared.levels.Evicted.{Evicted}
-use Rattle.node_memory.specs.Nodes.{Coming, NodeView, without_first_mail}
+use Rattle.node_memory.specs.Nodes.{Coming, NodeView, copy_of, with_mails, without_first_mail}
 use Rattle.node_memory.specs.Rows.{after_message, change_at, levels_after}
 use Rattle.node_memory.specs.Sound.{AreBefore}
-use Rattle.node_memory.specs.Starting.{Arrival, Begun, arrive, arrived, begins, first_begins, has_to_wait, is_due, meets, near_if_held, starts, starts_absent, uncovered, with_put}
+use Rattle.node_memory.specs.Starting.{Arrival, Begun, arrive, arrived, begins, first_begins, has_to_wait, is_absent, is_due, meets, met, near_if_held, put_for, slots_with, starts, starts_absent, starts_shared, uncovered}
 use Rattle.node_memory.specs.declared.table.Change.{Change}
 use Rattle.node_memory.specs.declared.table.Change.TheVariants.{Nothing, Lose, Share, Fill, EmptySlot, FreeSlot}
 use Rattle.coherent_memory.specs.Systems.{System}
@@ -36,9 +36,9 @@ module _ (now : ℕ) (P Q : NodeView → Type 0) (lasts : Lasts now P Q) (p : �
 
   at_receive : (s t : System) (told : List (Node × Line)) → Receives p now s t told → Q (s.nodes p) → Q (t.nodes p)
   at_receive s t _ (full packed same) is = subst (λ (u : System). Q (u.nodes p)) (sym same) is
-  at_receive s t _ (nothing yes none same) is = subst (λ (u : System). Q (u.nodes p)) (sym same) is
-  at_receive s t _ (by_home i f yes next stands to kind takes) is = let (home, serves, same) = takes in subst (λ (u : System). Q (u.nodes p)) (sym same) is
-  at_receive s t _ (by_node i f yes next stands to kind same) is =
+  at_receive s t _ (nothing free none same) is = subst (λ (u : System). Q (u.nodes p)) (sym same) is
+  at_receive s t _ (by_home i f free next stands to kind takes) is = let (home, serves, same) = takes in subst (λ (u : System). Q (u.nodes p)) (sym same) is
+  at_receive s t _ (by_node i f free next stands to kind same) is =
       subst (λ (u : System). Q (u.nodes p)) (sym same) (subst Q (sym (with_at-same s.nodes p (after_message (letter_of f.message) (s.nodes p)))) (lasts.message (letter_of f.message) (s.nodes p) is))
 
   at_home : (s t : System) → HomeSends p now s t → Q (s.nodes p) → Q (t.nodes p)
@@ -60,9 +60,9 @@ module _ (now : ℕ) (P Q : NodeView → Type 0) (lasts : Lasts now P Q) (p : �
 module _ (p : ℕ) (q : ℕ) (other : q ≢ p) where
   receive-others : (now : ℕ) (s t : System) (told : List (Node × Line)) → Receives p now s t told → t.nodes q ≡ s.nodes q
   receive-others now s t _ (full packed same) = ap (λ (u : System). u.nodes q) same
-  receive-others now s t _ (nothing yes none same) = ap (λ (u : System). u.nodes q) same
-  receive-others now s t _ (by_home i f yes next stands to kind takes) = let (home, serves, same) = takes in ap (λ (u : System). u.nodes q) same
-  receive-others now s t _ (by_node i f yes next stands to kind same) =
+  receive-others now s t _ (nothing free none same) = ap (λ (u : System). u.nodes q) same
+  receive-others now s t _ (by_home i f free next stands to kind takes) = let (home, serves, same) = takes in ap (λ (u : System). u.nodes q) same
+  receive-others now s t _ (by_node i f free next stands to kind same) =
       ap (λ (u : System). u.nodes q) same ∙ with_at-other s.nodes p (after_message (letter_of f.message) (s.nodes p)) q (ne_eqb q p other)
 
   home-others : (now : ℕ) (s t : System) → HomeSends p now s t → t.nodes q ≡ s.nodes q
@@ -89,9 +89,9 @@ send-ticks c p to m = cond_both _ c _ (λ (d : CarrierView). d.ticks ≡ c.ticks
 
 receive-ticks : (p now : ℕ) (s t : System) (told : List (Node × Line)) → Receives p now s t told → t.carrier.ticks ≡ s.carrier.ticks
 receive-ticks p now s t _ (full packed same) = ap (λ (u : System). u.carrier.ticks) same
-receive-ticks p now s t _ (nothing yes none same) = ap (λ (u : System). u.carrier.ticks) same
-receive-ticks p now s t _ (by_home i f yes next stands to kind takes) = let (home, serves, same) = takes in ap (λ (u : System). u.carrier.ticks) same
-receive-ticks p now s t _ (by_node i f yes next stands to kind same) = ap (λ (u : System). u.carrier.ticks) same
+receive-ticks p now s t _ (nothing free none same) = ap (λ (u : System). u.carrier.ticks) same
+receive-ticks p now s t _ (by_home i f free next stands to kind takes) = let (home, serves, same) = takes in ap (λ (u : System). u.carrier.ticks) same
+receive-ticks p now s t _ (by_node i f free next stands to kind same) = ap (λ (u : System). u.carrier.ticks) same
 
 home-ticks : (p now : ℕ) (s t : System) → HomeSends p now s t → t.carrier.ticks ≡ s.carrier.ticks
 home-ticks p now _ _ (ends s none) = refl
@@ -137,16 +137,86 @@ record Arrives (now : ℕ) (coming left : List Coming) (levels after : LevelsVie
 
 arrive-keeps : (latency now : ℕ) (coming : List Coming) (levels : LevelsView) → Arrives now coming (arrive latency now coming levels).coming levels (arrive latency now coming levels).levels
 arrive-keeps latency now [] levels = record { bytes = refl; before = λ all. all }
-arrive-keeps latency now (c ∷ cs) levels = by (is_due latency now c) refl
+arrive-keeps latency now (c ∷ cs) levels = by (arrive-keeps latency now cs (near_if_held c.line levels)) (is_due latency now c) refl
   where
     rest : AreBefore now (c ∷ cs) → AreBefore now cs
     rest all k d below = all (suc k) d (omega (arith, below))
 
-    by : (b : Bool) → is_due latency now c ≡ b → Arrives now (c ∷ cs) (arrive latency now (c ∷ cs) levels).coming levels (arrive latency now (c ∷ cs) levels).levels
-    by true e =
-        let more = arrive-keeps latency now cs (near_if_held c.line levels) in
+    by : Arrives now cs (arrive latency now cs (near_if_held c.line levels)).coming (near_if_held c.line levels) (arrive latency now cs (near_if_held c.line levels)).levels → (b : Bool) → is_due latency now c ≡ b → Arrives now (c ∷ cs) (arrive latency now (c ∷ cs) levels).coming levels (arrive latency now (c ∷ cs) levels).levels
+    by more true e =
         let same = ap (λ b. cond b (arrive latency now cs (near_if_held c.line levels)) (record { levels = levels; coming = c ∷ cs })) (sym e) in
         subst (λ (a : Arrival). Arrives now (c ∷ cs) a.coming levels a.levels) same (record { bytes = more.bytes ∙ near-bytes c.line levels; before = λ all. more.before (rest all) })
-    by false e =
+    by more false e =
         let same = ap (λ b. cond b (arrive latency now cs (near_if_held c.line levels)) (record { levels = levels; coming = c ∷ cs })) (sym e) in
         subst (λ (a : Arrival). Arrives now (c ∷ cs) a.coming levels a.levels) same (record { bytes = refl; before = λ all. all })
+
+All-one : {A : Type 0} (P : A → Type 0) (x : A) → P x → All P (x ∷ [])
+All-one P x is zero d below = is
+All-one P x is (suc k) d below = absurd (omega (arith, below))
+
+filled-bytes : (slot : Option ℕ) (f : ℕ → LevelsView) (levels : LevelsView) → ((k : ℕ) → (f k).line_bytes ≡ levels.line_bytes) → (option_map_or f slot levels).line_bytes ≡ levels.line_bytes
+filled-bytes None f levels same = refl
+filled-bytes (Some k) f levels same = same k
+
+change-bytes : (change : Change) (line : ℕ) (levels : LevelsView) → (levels_after change line levels).line_bytes ≡ levels.line_bytes
+change-bytes Nothing line levels = refl
+change-bytes Lose line levels = refl
+change-bytes Share line levels = refl
+change-bytes (Fill own bytes) line levels = filled-bytes (reserved_slot line levels.second) _ levels (λ slot. refl)
+change-bytes EmptySlot line levels = refl
+change-bytes FreeSlot line levels = refl
+
+-- a line that leaves is put back
+put-stays : (line : Option Line) (f : Line → NodeView) (v : NodeView) → ((l : Line) → ((f l).levels.line_bytes ≡ v.levels.line_bytes) × ((f l).coming ≡ v.coming)) →
+    ((option_map_or f line v).levels.line_bytes ≡ v.levels.line_bytes) × ((option_map_or f line v).coming ≡ v.coming)
+put-stays None f v same = (refl, refl)
+put-stays (Some l) f v same = same l
+
+absent-begins : (now : ℕ) (w : Wish) (e : Option Evicted) (v : NodeView) → Begins now v (starts_absent w e v).after
+absent-begins now w None v = nothing-comes now v v refl refl
+absent-begins now w (Some e) v =
+    let room = record v { levels = with_room w.line v.levels; misses = slots_with e v.misses } in
+    let put = put-stays e.line (λ line. with_mails line.0 (put_for e) room) room (λ line. (refl, refl)) in
+    nothing-comes now v (starts_absent w (Some e) v).after (put.0 ∙ room-bytes w.line v.levels) put.1
+
+start-begins : (now : ℕ) (w : Wish) (v : NodeView) → Begins now v (starts w v).after
+start-begins now w v =
+    cond_both (is_absent (copy_of v w.line)) (starts_absent w (evicted w.line v.levels) v) (starts_shared w v) (λ (b : Begun). Begins now v b.after)
+    (λ _. absent-begins now w (evicted w.line v.levels) v)
+    (λ _. nothing-comes now v (starts_shared w v).after refl refl)
+
+first-begins : (now : ℕ) (ws : List Wish) (v : NodeView) → Begins now v (first_begins now ws v).after
+first-begins now [] v = nothing-comes now v (record v { wishes = [] }) refl refl
+first-begins now (w ∷ ws) v =
+    let rest : NodeView = record v { wishes = ws } in
+    let waits : Begun = record { answer = false; after = record v { wishes = w ∷ ws }; lost = [] } in
+    cond_both (meets w.own (copy_of v w.line)) (met now w rest) (cond (has_to_wait w v) waits (starts w rest)) (λ (b : Begun). Begins now v b.after)
+    (λ _. record { bytes = refl; more = record { line = w.line; since = now } ∷ []; coming = refl; since = All-one (λ (c : Coming). c.since ≡ now) (record { line = w.line; since = now }) refl })
+    (λ _.
+    cond_both (has_to_wait w v) waits (starts w rest) (λ (b : Begun). Begins now v b.after) (λ _. nothing-comes now v waits.after refl refl) (λ _. let b = start-begins now w rest in record { bytes = b.bytes; more = b.more; coming = b.coming; since = b.since }))
+
+-- ---- what lasts through turns
+
+-- a line has so many bytes
+pub bytes-last : (now lb : ℕ) → Lasts now (λ v. v.levels.line_bytes ≡ lb) (λ v. v.levels.line_bytes ≡ lb)
+bytes-last now lb = record {
+  begin = λ v is.
+      let u = arrived now v in
+      (first-begins now (uncovered u.misses u.wishes) u).bytes ∙ ((arrive-keeps v.latency now v.coming v.levels).bytes ∙ is);
+  message = λ m v is. change-bytes (change_at m v) m.line v.levels ∙ is;
+  sent = λ v is. is;
+}
+
+-- what is on its way was fetched before
+pub coming-lasts : (now : ℕ) → Lasts now (λ v. AreBefore now v.coming) (λ v. AreBefore (suc now) v.coming)
+coming-lasts now = record {
+  begin = λ v is.
+      let u = arrived now v in
+      let b = first-begins now (uncovered u.misses u.wishes) u in
+      let left = (arrive-keeps v.latency now v.coming v.levels).before is in
+      let P : Coming → Type 0 = λ c. c.since < suc now in
+      subst (λ (cs : List Coming). All P cs) (sym b.coming)
+      (All-append P u.coming b.more (λ k d below. omega (arith, left k d below)) (λ k d below. omega (arith, b.since k d below)));
+  message = λ m v is. is;
+  sent = λ v is. is;
+}
