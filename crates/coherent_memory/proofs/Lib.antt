@@ -11,6 +11,7 @@ pub mod Lost
 pub mod Moving
 pub mod NodeLaws
 pub mod NodeSteps
+mod Meanings
 mod PartRows
 pub mod Places
 pub mod Quiet
@@ -21,6 +22,8 @@ pub mod Sides
 mod Sizes
 mod Soundness
 pub mod Staying
+mod Starting
 mod Stored
 pub mod Turning
+mod Ticking
 mod Values

@@ -20,7 +20,7 @@ use Rattle.coherent_memory.specs.Stores.{Shape, store_of}
 use Rattle.coherent_memory.specs.Systems.{System, line_of}
 use Rattle.coherent_memory.proofs.Values.{line_of-copy}
 
-clash : (b : Bool) → b ≡ true → b ≡ false → ⊥
+pub clash : (b : Bool) → b ≡ true → b ≡ false → ⊥
 clash true e f = cc
 clash false e f = cc
 

@@ -1,0 +1,181 @@
+-- Memory at first: nobody has a line, and the bytes are the image's.
+use Rattle.std.proofs.Common.{◌≡◌, ℕ, zero, suc, ◌+◌, ◌*◌, ◌/◌, ◌%◌, ◌^◌, ◌<◌, ◌≤◌, Bool, true, false, cond, List, [], ◌∷◌, ◌++◌, find, map, get_or, slice_get, slice_index, Option, None, option_map, option_and_then, unwrap_or, is_some, mul_comm, refl, sym, ap, subst, ◌∙◌, arith}
+use Rattle.std.specs.FinMap.{get-empty}
+use Rattle.std.specs.Option.{option_map_or}
+use Rattle.std.specs.Ordering.{nat_cmp}
+use Rattle.std.specs.List.{All, flat_map, list_any, range_with_len}
+use Rattle.std.proofs.Math.Nat.{div-add-mod, mod-lt}
+use Rattle.std.proofs.lemmas.Bool.{false_from_ne_true, or_parts}
+use Rattle.std.proofs.lemmas.List.Elements.{All-nil}
+use Rattle.elf64_load.specs.Image.{ImageView, byte_at, content_at, holds as region_holds, in_one_stack, is_mapped}
+use Rattle.machine_config.specs.declared.config.Config.{Config}
+use Rattle.machine_config.specs.declared.config.Protocol.TheVariants.{Msi}
+use Rattle.cache_sets.specs.Caches.{empty_cache, empty_way, home_of, slot_of}
+use Rattle.cache_sets.specs.Ways.{Way, holds}
+use Rattle.cache_levels.specs.Levels as level
+use Rattle.cache_levels.specs.Levels.{empty_levels, near, owned}
+use Rattle.memory_contracts.specs.Protocol.Alike.{AreAlike, IsAlike}
+use Rattle.memory_contracts.specs.Protocol.Coherent.{Coherent}
+use Rattle.memory_contracts.specs.Protocol.Events.{start}
+use Rattle.memory_contracts.specs.Protocol.Laws.{CurrentIsContent, LinesStayCoherent, OrderIsFree}
+use Rattle.memory_contracts.specs.Protocol.Lines.{Cell, Idle, Absent, HomeRecord, all_mailed, cell, nobody, stance}
+use Rattle.memory_contracts.specs.Protocol.Messages.{Message}
+use Rattle.memory_contracts.specs.Protocol.NodeTable.{is_held}
+use Rattle.memory_contracts.specs.Start.{IsStart}
+use Rattle.directory.specs.Start as home
+use Rattle.miss_registers.specs.Misses.{victim_of}
+use Rattle.node_memory.specs.Nodes.{NodeView, awaits, copy_of, empty_node, kept_as, no_misses}
+use Rattle.coherent_memory.specs.Fine.{IsFine, IsRightFlight, IsRightLetter, IsRightMail, IsRightNode, IsRightPost}
+use Rattle.coherent_memory.specs.Lost.{holds as node_holds}
+use Rattle.coherent_memory.specs.Stores as store
+use Rattle.coherent_memory.specs.Stores.{Shape, store_of}
+use Rattle.coherent_memory.specs.Systems.{System, alone, between, content, home_at, home_number, is_kept, line_of, of_flight, of_letter, of_mail, of_post}
+use Rattle.coherent_memory.proofs.Alike.{IsAlike-refl}
+use Rattle.coherent_memory.proofs.Soundness.{IsNothing, clash}
+
+-- ---- an empty node
+
+nothing_held : (line : ℕ) (slots : List ℕ) → find (holds line) (map empty_way slots) ≡ None
+nothing_held line [] = refl
+nothing_held line (slot ∷ slots) = nothing_held line slots
+
+none_in_any : (line : ℕ) (make : ℕ → List Way) (sets : List ℕ) (n : ℕ) → ((k : ℕ) → find (holds line) (make k) ≡ None) → find (holds line) (get_or (map make sets) n []) ≡ None
+none_in_any line make [] n none = refl
+none_in_any line make (s ∷ ss) zero none = none s
+none_in_any line make (s ∷ ss) (suc n) none = none_in_any line make ss n none
+
+slot_of-empty : (sets ways line : ℕ) → slot_of line (empty_cache sets ways) ≡ None
+slot_of-empty sets ways line =
+    ap (option_map (λ (way : Way). way.slot))
+    (none_in_any line (λ n. map empty_way (range_with_len (n * ways) ways)) (range_with_len 0 sets) (home_of line (empty_cache sets ways)) (λ n. nothing_held line (range_with_len (n * ways) ways)))
+
+copy-empty : (config : Config) (l : ℕ) → level.copy_of l (empty_levels config) ≡ None
+copy-empty config l = ap (λ (o : Option ℕ). option_and_then (slice_get (empty_levels config).copies) o) (slot_of-empty config.l2_sets config.l2_ways l)
+
+pub absent-empty : (config : Config) (p l : ℕ) → copy_of (empty_node config p) l ≡ Absent
+absent-empty config p l = ap (λ o. kept_as o (victim_of (no_misses config.miss_registers) l)) (copy-empty config l) ∙ ap (λ slot. kept_as None slot) (get-empty nat_cmp l)
+
+unawaited-empty : (config : Config) (p l : ℕ) → awaits (empty_node config p) l ≡ false
+unawaited-empty config p l = ap is_some (get-empty nat_cmp l)
+
+pub nothing-empty : (config : Config) (p : ℕ) → IsNothing (empty_node config p)
+nothing-empty config p = record {
+  near = λ l. ap is_some (slot_of-empty config.l1_sets config.l1_ways l);
+  owned = λ l. ap (λ o. option_map_or (λ copy. copy.owned) o false) (copy-empty config l);
+  held = λ l. ap is_held (absent-empty config p l);
+  wishes = refl;
+}
+
+-- ---- all of memory
+
+pub record IsFirst (image : ImageView) (config : Config) (s : System) : Type 0 where
+  pub homes : (p : ℕ) → p < config.processors → home.IsStart image config p (s.homes p)
+  pub nodes : (p : ℕ) → p < config.processors → s.nodes p ≡ empty_node config p
+  pub flights : s.carrier.flights ≡ []
+
+module _ (stay : LinesStayCoherent) (order : OrderIsFree) (current : CurrentIsContent) (image : ImageView) (config : Config) (s : System) (some : 0 < config.processors) (first : IsFirst image config s) where
+  home_below : (l : ℕ) → home_number config.processors l < config.processors
+  home_below l = mod-lt l some
+
+  -- nothing is said about any line
+  quiet : (l x : ℕ) → x < config.processors → between config.processors s l x ≡ []
+  quiet l x below =
+      let h = first.homes (home_number config.processors l) (home_below l) in
+      let outgoing = ap (λ ps. flat_map (of_post l x) ps) h.outgoing in
+      let flights = ap (λ fs. flat_map (of_flight l x) fs) first.flights in
+      let outbox = ap (λ (v : NodeView). flat_map (of_mail l) v.outbox) (first.nodes x below) in
+      let waiting = ap (λ ws. flat_map (of_letter l x) ws) h.waiting in
+      ap (λ (ms : List Message). ms ++ (flat_map (of_flight l x) s.carrier.flights ++ (flat_map (of_mail l) (s.nodes x).outbox ++ flat_map (of_letter l x) (home_at config.processors s l).waiting))) outgoing
+      ∙ (ap (λ (ms : List Message). ms ++ (flat_map (of_mail l) (s.nodes x).outbox ++ flat_map (of_letter l x) (home_at config.processors s l).waiting)) flights
+      ∙ (ap (λ (ms : List Message). ms ++ flat_map (of_letter l x) (home_at config.processors s l).waiting) outbox ∙ waiting))
+
+  cell-first : (l x : ℕ) → x < config.processors → (line_of config.processors s l).at x ≡ cell (stance Absent false [] 0) []
+  cell-first l x below =
+      ap (λ (ms : List Message). all_mailed ms (alone (s.nodes x) l)) (quiet l x below)
+      ∙ (ap (λ (v : NodeView). alone v l) (first.nodes x below)
+      ∙ λ i. cell (stance (absent-empty config x l i) (unawaited-empty config x l i) [] 0) [])
+
+  record-first : (l : ℕ) → is_kept config.processors s l ≡ true → (line_of config.processors s l).home ≡ record { phase = Idle; owner = None; sharers = nobody; memory = (line_of config.processors s l).home.memory }
+  record-first l kept =
+      let is = (first.homes (home_number config.processors l) (home_below l)).records l kept in
+      λ i. record { phase = is.phase i; owner = is.owner i; sharers = is.sharers i; memory = (line_of config.processors s l).home.memory }
+
+  coherent-first : (l : ℕ) → is_kept config.processors s l ≡ true → Coherent config.processors (line_of config.processors s l).home.memory (line_of config.processors s l)
+  coherent-first l kept =
+      let n = config.processors in
+      let bytes = (line_of n s l).home.memory in
+      let at_start : Coherent n bytes (start bytes) = (stay Msi n bytes [] (record { content = bytes; line = start bytes }) refl).0 in
+      let alike : AreAlike n (start bytes) (line_of n s l) = record {
+        home = sym (record-first l kept);
+        nodes = λ x below. subst (λ (c : Cell). IsAlike (cell (stance Absent false [] 0) []) c) (sym (cell-first l x below)) (IsAlike-refl _);
+      } in
+      order n bytes (start bytes) (line_of n s l) alike at_start
+
+  pub content-first : (l : ℕ) → is_kept config.processors s l ≡ true → content config.processors s l ≡ (line_of config.processors s l).home.memory
+  content-first l kept = current config.processors (line_of config.processors s l).home.memory (line_of config.processors s l) (coherent-first l kept)
+
+  pub fine-first : IsFine config.processors s
+  fine-first =
+      let n = config.processors in
+      let kept = is_kept n s in
+      record {
+        some = some;
+        right = record {
+          homes = λ h below.
+              let is = first.homes h below in
+              record {
+                at = is.at;
+                nodes = is.nodes;
+                outgoing = subst (λ ps. All (IsRightPost n kept h) ps) (sym is.outgoing) (All-nil (IsRightPost n kept h));
+                waiting = subst (λ ws. All (IsRightLetter n kept h) ws) (sym is.waiting) (All-nil (IsRightLetter n kept h));
+              };
+          nodes = λ p below. subst (λ (v : NodeView). IsRightNode n kept p v) (sym (first.nodes p below))
+              (record {
+                at = refl;
+                nodes = refl;
+                outbox = All-nil (IsRightMail n kept);
+                wishes = All-nil (λ w. kept w.line ≡ true);
+                copies = λ l held. absurd (clash _ held ((nothing-empty config p).held l));
+              });
+          flights = subst (λ fs. All (IsRightFlight n kept) fs) (sym first.flights) (All-nil (IsRightFlight n kept));
+        };
+        lines = λ l there. subst (λ (g : List ℕ). Coherent n g (line_of n s l)) (sym (content-first l there)) (coherent-first l there);
+      }
+
+-- ---- the store
+
+find-none_any : {X : Type 0} (p : X → Bool) (xs : List X) → list_any p xs ≡ false → find p xs ≡ None
+find-none_any p [] none = refl
+find-none_any p (x ∷ xs) none =
+    let parts = or_parts (p x) (list_any p xs) none in
+    rw parts.0 (find-none_any p xs parts.1)
+
+-- the image has a zero where there is no memory
+byte_at-unmapped : (image : ImageView) (a : ℕ) → is_mapped image a ≡ false → byte_at image a ≡ 0
+byte_at-unmapped image a none =
+    let parts = or_parts (list_any (region_holds a 1) image.regions) (in_one_stack a 1) none in
+    ap (λ o. unwrap_or (option_map (content_at a) o) 0) (find-none_any (region_holds a 1) image.regions parts.0)
+
+module _ (stay : LinesStayCoherent) (order : OrderIsFree) (current : CurrentIsContent) (image : ImageView) (config : Config) (s : System) (some : 0 < config.processors) (first : IsFirst image config s)
+    (shape : Shape) (nodes : shape.nodes ≡ config.processors) (bytes : shape.line_bytes ≡ config.line) (wide : 0 < config.line) where
+  -- a line with a mapped byte is kept
+  pub kept-first : (a : ℕ) → a < 2 ^ 64 → is_mapped image a ≡ true → is_kept config.processors s (a / config.line) ≡ true
+  kept-first a fits mapped = (first.homes (home_number config.processors (a / config.line)) (mod-lt (a / config.line) some)).lines a fits mapped refl
+
+  byte-first : (a : ℕ) → a < 2 ^ 64 → (b : Bool) → is_kept config.processors s (a / config.line) ≡ b →
+      cond b (slice_index (content config.processors s (a / config.line)) (a % config.line)) 0 ≡ byte_at image a
+  byte-first a fits true kept =
+      let l = a / config.line in
+      let is = (first.homes (home_number config.processors l) (mod-lt l some)).records l kept in
+      let parts : l * config.line + a % config.line ≡ a = omega (arith, div-add-mod a config.line, mul_comm l config.line) in
+      ap (λ (bs : List ℕ). slice_index bs (a % config.line)) (content-first stay order current image config s some first l kept)
+      ∙ is.bytes.image_bytes (a % config.line) (mod-lt a wide) (omega (arith, parts, fits))
+      ∙ ap (byte_at image) parts
+  byte-first a fits false unkept =
+      sym (byte_at-unmapped image a (false_from_ne_true (is_mapped image a) (λ mapped. clash _ (kept-first a fits mapped) unkept)))
+
+  pub bytes-first : (a : ℕ) → a < 2 ^ 64 → store.byte_at shape s a ≡ byte_at image a
+  bytes-first a fits =
+      ap (λ (n : ℕ). cond (is_kept n s (a / shape.line_bytes)) (slice_index (content n s (a / shape.line_bytes)) (a % shape.line_bytes)) 0) nodes
+      ∙ ap (λ (lb : ℕ). cond (is_kept config.processors s (a / lb)) (slice_index (content config.processors s (a / lb)) (a % lb)) 0) bytes
+      ∙ byte-first a fits (is_kept config.processors s (a / config.line)) refl
