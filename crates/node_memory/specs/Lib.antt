@@ -1,6 +1,9 @@
 pub mod Laws
+pub mod NodeViews
 pub mod Nodes
+pub mod Noted
 pub mod Rows
 pub mod Sides
 pub mod Sound
 pub mod Starting
+pub mod TableRows

@@ -1,6 +1,17 @@
-//! Definitions alone.
+//! The memory of a node: its caches and its misses, what it wishes, and what it answers to the messages of homes.
 #![tactic(auto)]
 
+mod coming;
+mod laws;
+mod lines;
+mod node;
+mod outbox;
 mod table;
+#[cfg(test)]
+mod tests;
+mod value;
+mod wish_list;
+mod word;
 
-pub use table::Change;
+pub use laws::tables_follow;
+pub use node::NodeMemory;

@@ -1,0 +1,13 @@
+pub mod Beginning
+pub mod Empty
+pub mod Fetched
+pub mod Fits
+pub mod Follows
+pub mod Held
+pub mod LineViews
+pub mod Mails
+pub mod Reading
+pub mod Starting
+pub mod Touching
+pub mod Victims
+pub mod Wishing

@@ -1,0 +1,59 @@
+// What a node says about a line.
+ghost use Rattle.std.specs.Prelude.{◌≡◌};
+ghost use Rattle.memory_contracts.specs.Said.{said};
+
+use memory_contracts::{Message, MsgKind};
+use rsim_base::{Line, Node};
+
+/// The bytes of a line, in front; those behind them do not count.
+pub type LineBytes = [u8; 128];
+
+/// What a node says to the home of a line.
+#[derive(Clone, Copy)]
+pub enum Word {
+    /// Give me the line, to own it or to read it.
+    Get { own: bool },
+    /// I give the line back.
+    Put { bytes: LineBytes },
+    /// My copy is gone.
+    InvAck,
+    /// Here is the line that you recalled; I keep a shared copy, or none.
+    RecallAck { kept: bool, bytes: LineBytes },
+    /// The line has come.
+    Done,
+}
+
+impl Word {
+    ghost use Rattle.node_memory.specs.Noted.{word_of};
+
+    /// The message from a node that says this about a line.
+    pub fn message(&self, line: Line, from: Node) -> Message
+        ensures said { said result ≡ word_of self.now }
+        ensures line { result.line ≡ line }
+        ensures from { result.from ≡ from }
+    {
+        let bare = |kind| Message {
+            kind,
+            line,
+            from,
+            owned: false,
+            kept: false,
+            bytes: [0; 128],
+        };
+        match *self {
+            Word::Get { own: true } => bare(MsgKind::GetM),
+            Word::Get { own: false } => bare(MsgKind::GetS),
+            Word::Put { bytes } => Message {
+                bytes,
+                ..bare(MsgKind::Put)
+            },
+            Word::InvAck => bare(MsgKind::InvAck),
+            Word::RecallAck { kept, bytes } => Message {
+                kept,
+                bytes,
+                ..bare(MsgKind::RecallAck)
+            },
+            Word::Done => bare(MsgKind::Done),
+        }
+    }
+}
