@@ -1,7 +1,10 @@
+pub mod FabricViews
+pub mod Fabrics
 pub mod Fine
 pub mod HomeRows
 pub mod Laws
 pub mod Lost
+pub mod NodeRows
 pub mod Rooms
 pub mod Rows
 pub mod Sending
