@@ -175,3 +175,9 @@ node_more n k p m v s copies registers messages = record {
 -- the oldest that is to be sent
 pub mail_more : (n p : ℕ) (mail : Mail) (s : System) → slice_get (s.nodes p).outbox 0 ≡ Some mail → HasMore n mail.line p mail.message (without_mail p s) s
 mail_more n p mail s e = node_more n mail.line p mail.message (record (s.nodes p) { outbox = drop 1 (s.nodes p).outbox }) s (λ l. refl) (λ l. refl) (λ l. removed (of_mail l) (s.nodes p).outbox 0 mail e)
+
+-- ---- the same message, said otherwise
+
+pub more_as : {n k l y x : ℕ} {m j : Says.Message} {r s : System} → k ≡ l → y ≡ x → m ≡ j → HasMore n k y m r s → HasMore n l x j r s
+more_as {n = n} {k = k} {y = y} {x = x} {j = j} {r = r} {s = s} e f g more =
+    subst (λ k. HasMore n k x j r s) e (subst (λ y. HasMore n k y j r s) f (subst (λ m. HasMore n k y m r s) g more))

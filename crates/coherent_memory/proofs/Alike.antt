@@ -168,3 +168,23 @@ more_behind xs ys ms ks r =
     (AreReordered-trans (AreReordered-same (sym (append_assoc ks ms ys)))
     (AreReordered-trans (AreReordered-append (ks ++ ms) (ms ++ ks) ys ys (AreReordered-comm ks ms) (AreReordered-refl ys))
     (AreReordered-same (append_assoc ms ks ys))))
+
+-- ---- what no message changes
+
+copy_by_place : (m : Message) (c : Cell) → Place m → (mailed m c).stance.copy ≡ c.stance.copy
+copy_by_place m c (asked e) = ap (λ (d : Cell). d.stance.copy) (e c)
+copy_by_place m c (acks e) = ap (λ (d : Cell). d.stance.copy) (e c)
+copy_by_place m c (words e) = ap (λ (d : Cell). d.stance.copy) (e c)
+
+pub all_mailed-copy : (ms : List Message) (c : Cell) → (all_mailed ms c).stance.copy ≡ c.stance.copy
+all_mailed-copy [] c = refl
+all_mailed-copy (m ∷ ms) c = copy_by_place m (all_mailed ms c) (place m) ∙ all_mailed-copy ms c
+
+register_by_place : (m : Message) (c : Cell) → Place m → (mailed m c).stance.register ≡ c.stance.register
+register_by_place m c (asked e) = ap (λ (d : Cell). d.stance.register) (e c)
+register_by_place m c (acks e) = ap (λ (d : Cell). d.stance.register) (e c)
+register_by_place m c (words e) = ap (λ (d : Cell). d.stance.register) (e c)
+
+pub all_mailed-register : (ms : List Message) (c : Cell) → (all_mailed ms c).stance.register ≡ c.stance.register
+all_mailed-register [] c = refl
+all_mailed-register (m ∷ ms) c = register_by_place m (all_mailed ms c) (place m) ∙ all_mailed-register ms c

@@ -1,8 +1,10 @@
 -- Functions that are changed at one place, and lists without what stands at one place.
-use Rattle.std.proofs.Common.{◌≡◌, ℕ, zero, suc, Bool, true, false, cond, ◌==◌, List, [], ◌∷◌, ◌++◌, take, drop, Some, refl, sym, ap, ◌∙◌, append_assoc}
+use Rattle.std.proofs.Common.{◌≡◌, ℕ, zero, suc, Bool, true, false, cond, ◌==◌, List, [], ◌∷◌, ◌++◌, take, drop, Some, All, refl, sym, ap, ◌∙◌, subst, append_assoc}
 use Rattle.std.specs.List.{flat_map, remove, slice_get}
 use Rattle.std.proofs.lemmas.Bool.{cond_both, eq-eqb, eqb-true, eqb-false, ne_eqb}
 use Rattle.std.proofs.lemmas.List.Concat.{flat_map-append}
+use Rattle.std.proofs.lemmas.List.Elements.{All-append, All-drop, All-take}
+use Rattle.std.proofs.lemmas.Option.{get_or_from_slice_get, slice_get_within}
 use Rattle.memory_contracts.specs.Protocol.Messages.{Message}
 use Rattle.memory_contracts.specs.Updates.{with_at}
 use Rattle.coherent_memory.proofs.Alike.{AreReordered, AreReordered-refl, AreReordered-comm, AreReordered-same, AreReordered-trans, more_behind}
@@ -34,6 +36,14 @@ pub split_place : {A : Type 0} (xs : List A) (i : ℕ) (x : A) → slice_get xs 
 split_place [] i x e = absurd cc
 split_place (y ∷ xs) zero x e = let same : y ≡ x = cc in ap (λ z. z ∷ xs) same
 split_place (y ∷ xs) (suc i) x e = ap (λ zs. y ∷ zs) (split_place xs i x e)
+
+-- what holds of each element holds of the one at a place
+pub All-at_place : {A : Type 0} (P : A → Type 0) (xs : List A) (i : ℕ) (x : A) → All P xs → slice_get xs i ≡ Some x → P x
+All-at_place P xs i x all e = subst P (get_or_from_slice_get xs i x x e) (all i x (slice_get_within xs i x e))
+
+-- and of all that are left without one
+pub All-remove : {A : Type 0} (P : A → Type 0) (xs : List A) (i : ℕ) → All P xs → All P (remove xs i)
+All-remove P xs i all = All-append P (take i xs) (drop (suc i) xs) (All-take P i xs all) (All-drop P (suc i) xs all)
 
 -- what one element gives comes to the front
 pub removed : {A : Type 0} (f : A → List Message) (xs : List A) (i : ℕ) (x : A) → slice_get xs i ≡ Some x → AreReordered (flat_map f xs) (f x ++ flat_map f (remove xs i))

@@ -1,0 +1,1 @@
+-- A node takes a message of a home.
