@@ -1,18 +1,33 @@
 -- A node begins its part of a tick: lines stay coherent where a line leaves, and where one is asked for.
-use Rattle.std.proofs.Common.{◌≡◌, ◌≢◌, ℕ, ◌<◌, ◌%◌, ◌==◌, Bool, true, false, cond, List, [], ◌∷◌, ◌++◌, refl, sym, ap, subst, ◌∙◌, true≢false}
+use Rattle.std.proofs.Common.{◌≡◌, ℕ, ◌<◌, Bool, true, false, cond, List, [], ◌∷◌, ◌++◌, All, Option, None, Some, ⊎_elim, refl, sym, ap, subst, ◌∙◌, true≢false}
+use Rattle.std.specs.Option.{option_map_or}
+use Rattle.std.proofs.lemmas.List.Elements.{All-append, All-cons, All-contains, All-head, All-nil, All-tail}
+use Rattle.rsim_base.specs.declared.memory.Line.{Line}
 use Rattle.machine_config.specs.declared.config.Protocol.TheVariants.{Msi}
 use Rattle.memory_contracts.specs.Protocol.Coherent.{Coherent}
-use Rattle.memory_contracts.specs.Protocol.Events.{Event, Evicts, Moment, Starts, Writes, becomes}
+use Rattle.memory_contracts.specs.Protocol.Events.{Event, Evicts, Moment, Starts, becomes, is_to_home}
 use Rattle.memory_contracts.specs.Protocol.Lines.{Absent, Cell, Copy, Emptied, Evicting, LineState, Owned, Shared, all_mailed, cell, mailed, with_cell}
-use Rattle.memory_contracts.specs.Protocol.Messages.{GetM, GetS, Message, get}
+use Rattle.memory_contracts.specs.Protocol.Messages.{GetM, GetS, Message, Put, get}
 use Rattle.memory_contracts.specs.Protocol.NodeTable.{after_eviction, after_start, evicted, may_start, put_back}
-use Rattle.memory_contracts.specs.Store.{Wish}
+use Rattle.memory_contracts.specs.Store.{IsLeftOf, Wish}
 use Rattle.memory_contracts.specs.Updates.{with_at}
-use Rattle.node_memory.specs.Sides.{MayStart, Side, asks_for, evicts_line, side_of}
-use Rattle.coherent_memory.specs.Systems.{System, line_of}
-use Rattle.coherent_memory.proofs.Keeping.{ProtocolLaws}
-use Rattle.coherent_memory.proofs.Places.{with_at-other, with_at-same}
-use Rattle.coherent_memory.proofs.Sides.{ChangesAt, cell-at, copy-there, register-there, said_between, seen, side-step, side_cell, stance-at, standing}
+use Rattle.cache_levels.specs.Levels.{evicted as evicted_for, with_room}
+use Rattle.cache_levels.specs.declared.levels.Evicted.{Evicted}
+use Rattle.node_memory.specs.Nodes.{NodeView, copy_of, with_mails}
+use Rattle.node_memory.specs.Sides.{Begins, evicts, starts, stays, MayStart, Side, asks_for, evicts_line, side_of}
+use Rattle.node_memory.specs.Sound.{IsSound}
+use Rattle.node_memory.specs.Starting.{arrived, begins, first_begins, has_to_wait, is_absent, meets, met, put_for, slots_with, starts_absent, starts_shared, uncovered}
+use Rattle.coherent_memory.specs.Fine.{IsFine, IsRightNode}
+use Rattle.coherent_memory.specs.Laws.{BeginKeeps}
+use Rattle.coherent_memory.specs.Systems.{System, content, is_kept, line_of}
+use Rattle.coherent_memory.specs.Turns.{begun}
+use Rattle.coherent_memory.proofs.Keeping.{ProtocolLaws, keeps}
+use Rattle.coherent_memory.proofs.Leaving.{evicted-not_held}
+use Rattle.coherent_memory.proofs.NodeLaws.{NodeLaws}
+use Rattle.coherent_memory.proofs.NodeRights.{IsRightSide, right-copies, right-node, right-sends, right-side}
+use Rattle.coherent_memory.proofs.Places.{eqb-sym, with_at-other, with_at-same}
+use Rattle.coherent_memory.proofs.Rights.{right_with_node}
+use Rattle.coherent_memory.proofs.Sides.{ChangesAt, cell-at, copy-there, register-there, seen, seen-other, seen-own, side-step, side_cell, stance-at, standing}
 
 -- ---- a side that asks for a line, or evicts one
 
@@ -94,6 +109,17 @@ module _ (laws : ProtocolLaws) (n p : ℕ) (s : System) (below : p < n) where
 
 -- ---- what a node has is where it belongs
 
+asks-home : (own : Bool) → is_to_home (get own) ≡ true
+asks-home true = refl
+asks-home false = refl
+
+puts-home : (copy : Copy) → All (λ m. is_to_home m ≡ true) (put_back copy)
+puts-home Absent = All-nil (λ m. is_to_home m ≡ true)
+puts-home (Shared bytes) = All-nil (λ m. is_to_home m ≡ true)
+puts-home (Owned bytes) = All-cons (λ m. is_to_home m ≡ true) (Put bytes) [] refl (All-nil (λ m. is_to_home m ≡ true))
+puts-home (Evicting bytes) = All-nil (λ m. is_to_home m ≡ true)
+puts-home Emptied = All-nil (λ m. is_to_home m ≡ true)
+
 module _ (n : ℕ) (kept : ℕ → Bool) where
   right-asks : (line : ℕ) (own : Bool) (a : Side) → kept line ≡ true → IsRightSide n kept a → IsRightSide n kept (asks_for line own a)
   right-asks line own a there right = right-sends n kept line (get own ∷ []) (record a { registers = with_at a.registers line true }) there (All-cons (λ m. is_to_home m ≡ true) (get own) [] (asks-home own) (All-nil (λ m. is_to_home m ≡ true)))
@@ -101,7 +127,7 @@ module _ (n : ℕ) (kept : ℕ → Bool) where
 
   right-evicts : (line : ℕ) (a : Side) → kept line ≡ true → IsRightSide n kept a → IsRightSide n kept (evicts_line line a)
   right-evicts line a there right = right-sends n kept line (put_back (a.copies line)) (record a { copies = with_at a.copies line (evicted (a.copies line)) }) there (puts-home (a.copies line))
-      (record { nodes = right.nodes; outbox = right.outbox; copies = ? })
+      (record { nodes = right.nodes; outbox = right.outbox; copies = right-copies kept a.copies line (evicted (a.copies line)) right.copies (λ held. absurd (true≢false (sym held ∙ evicted-not_held (a.copies line)))) })
 
   right-begins : (wishes : List Wish) (a b : Side) (lost : List ℕ) → Begins wishes a b lost → All (λ (w : Wish). kept w.line ≡ true) wishes → IsRightSide n kept a → IsRightSide n kept b
   right-begins wishes a b _ (stays same) wished right = subst (λ (c : Side). IsRightSide n kept c) (sym same) right
@@ -114,7 +140,7 @@ module _ (n : ℕ) (kept : ℕ → Bool) where
 
 -- ---- what is no part of the side
 
-put-at : (e : Option Line) (v : NodeView) (ms : List Message) → (option_map_or (λ (line : Line). with_mails line.0 ms v) v e).at ≡ v.at
+put-at : (e : Option Line) (v : NodeView) (ms : List Message) → (option_map_or (λ (line : Line). with_mails line.0 ms v) e v).at ≡ v.at
 put-at None v ms = refl
 put-at (Some line) v ms = refl
 
@@ -129,10 +155,10 @@ first-at now (w ∷ ws) v = by (meets w.own (copy_of v w.line)) (has_to_wait w v
     u : NodeView
     u = record v { wishes = ws }
 
-    by : (a b c : Bool) → (cond a (met now w (record v { wishes = ws })) (cond b (record { answer = false; after = record v { wishes = w ∷ ws }; lost = [] }) (cond c (starts_absent w (evicted_of w.line v.levels) (record v { wishes = ws })) (starts_shared w (record v { wishes = ws }))))).after.at ≡ v.at
+    by : (a b c : Bool) → (cond a (met now w (record v { wishes = ws })) (cond b (record { answer = false; after = record v { wishes = w ∷ ws }; lost = [] }) (cond c (starts_absent w (evicted_for w.line v.levels) (record v { wishes = ws })) (starts_shared w (record v { wishes = ws }))))).after.at ≡ v.at
     by true b c = refl
     by false true c = refl
-    by false false true = starts-at w (evicted_of w.line v.levels) (record v { wishes = ws })
+    by false false true = starts-at w (evicted_for w.line v.levels) (record v { wishes = ws })
     by false false false = refl
 
 begins-at : (now : ℕ) (v : NodeView) → (begins now v).after.at ≡ v.at
@@ -148,4 +174,17 @@ left-all P left (w ∷ all) is each = ⊎_elim
 -- ---- all of memory
 
 pub begin_keeps : ProtocolLaws → NodeLaws → BeginKeeps
-begin_keeps laws node n p now s fine below sound = ?
+begin_keeps laws node n p now s fine below sound =
+    let v = s.nodes p in
+    let w = (begins now v).after in
+    let begun_as = node.begin now v sound in
+    let before = fine.right.nodes p below in
+    keeps laws n s (begun p now s) fine.some refl
+    (right_with_node p w fine.right (λ inside. right-node n (is_kept n s) p w
+        (begins-at now v ∙ before.at)
+        (left-all (λ (w : Wish). is_kept n s w.line ≡ true) w.wishes v.wishes (node.wishes now v) before.wishes)
+        (right-begins n (is_kept n s) v.wishes (side_of v) (side_of w) (begins now v).lost begun_as before.wishes (right-side n (is_kept n s) p v before))))
+    (λ l kept.
+        subst (λ m. Coherent n (content n s l) m) (seen-other n s p w l)
+        (begins-keep laws n p s below v.wishes (side_of v) (side_of w) (begins now v).lost begun_as l (content n s l)
+        (subst (λ m. Coherent n (content n s l) m) (sym (seen-own n s p l)) (fine.lines l kept))))

@@ -56,7 +56,7 @@ leaves-none old new same = record {
   awaited = λ l there gone. absurd (true≢false (sym there ∙ sym (ap (λ (c : ℕ → Copy). is_held (c l)) same) ∙ gone));
 }
 
-evicted-not_held : (c : Copy) → is_held (evicted c) ≡ false
+pub evicted-not_held : (c : Copy) → is_held (evicted c) ≡ false
 evicted-not_held Absent = refl
 evicted-not_held (Shared bytes) = refl
 evicted-not_held (Owned bytes) = refl
