@@ -1,11 +1,10 @@
 -- Which message one system has more than another: one under way, one that waits at a home, or one that is to be sent.
-use Rattle.std.proofs.Common.{◌≡◌, ℕ, Bool, true, false, cond, ◌&&◌, ◌==◌, ◌%◌, List, [], ◌∷◌, ◌++◌, Some, drop, refl, sym, ap, ◌∙◌, subst, true≢false}
+use Rattle.std.proofs.Common.{◌≡◌, ℕ, Bool, true, false, cond, ◌&&◌, ◌==◌, List, [], ◌∷◌, ◌++◌, Some, drop, refl, sym, ap, ◌∙◌, subst, true≢false}
 use Rattle.std.specs.List.{flat_map, remove, slice_get}
 use Rattle.std.proofs.lemmas.Bool.{eqb-true, eq-eqb, eqb-false, false_from_ne_true}
-use Rattle.memory_contracts.specs.Carrier.{Flight, class_of, sends}
+use Rattle.memory_contracts.specs.Carrier.{Flight, sends}
 use Rattle.memory_contracts.specs.Protocol.Messages as Says
 use Rattle.memory_contracts.specs.Said.{Letter, Mail, said}
-use Rattle.memory_contracts.specs.Updates.{with_at}
 use Rattle.memory_contracts.specs.declared.message.Message.{Message}
 use Rattle.directory.specs.Homes.{HomeView, Post}
 use Rattle.node_memory.specs.Nodes.{NodeView, awaits, copy_of}
@@ -13,7 +12,7 @@ use Rattle.coherent_memory.specs.Systems.{System, between, home_at, home_number,
 use Rattle.coherent_memory.specs.Turns.{is_refused, posted, with_carrier, with_home, with_node, without_flight, without_mail, without_post}
 use Rattle.coherent_memory.proofs.Alike.{AreReordered, AreReordered-refl, more_before, more_behind}
 use Rattle.coherent_memory.proofs.Lines.{HasMore}
-use Rattle.coherent_memory.proofs.Places.{eqb-refl, eqb-sym, joined_last, removed, split_place, with_at-both}
+use Rattle.coherent_memory.proofs.Places.{eqb-sym, joined_last, removed, with_at-both}
 
 -- ---- what is said about a line, by who has it
 

@@ -1,9 +1,9 @@
 -- Cells to which the same messages are mailed in another order.
-use Rattle.std.proofs.Common.{◌≡◌, ℕ, suc, Bool, true, false, cond, List, [], ◌∷◌, ◌++◌, refl, sym, ap, ◌∙◌, subst, append_assoc}
+use Rattle.std.proofs.Common.{◌≡◌, suc, List, [], ◌∷◌, ◌++◌, refl, sym, ap, ◌∙◌, subst, append_assoc}
 use Rattle.std.specs.List.Sorted.{IsPermutation}
 use Rattle.std.proofs.lemmas.List.Sorted.{IsPermutation-refl, IsPermutation-sym, IsPermutation-trans, IsPermutation-cons, IsPermutation-middle}
-use Rattle.memory_contracts.specs.Protocol.Messages.{Message, GetS, GetM, Put, Inv, Recall, Grant, PutAck, InvAck, RecallAck, Done}
-use Rattle.memory_contracts.specs.Protocol.Lines.{Cell, cell, Stance, mailed, all_mailed}
+use Rattle.memory_contracts.specs.Protocol.Messages.{Message, GetS, GetM, Put, PutAck}
+use Rattle.memory_contracts.specs.Protocol.Lines.{Cell, cell, mailed, all_mailed}
 use Rattle.memory_contracts.specs.Protocol.Alike.{IsAlike}
 
 -- ---- cells

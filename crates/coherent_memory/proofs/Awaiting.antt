@@ -1,14 +1,12 @@
 -- A line that is granted to a node is awaited there.
-use Rattle.std.proofs.Common.{◌≡◌, ℕ, ◌<◌, Bool, true, false, cond, ◌==◌, List, [], ◌∷◌, refl, sym, ap, ◌∙◌, subst}
+use Rattle.std.proofs.Common.{◌≡◌, ℕ, Bool, true, false, cond, ◌==◌, List, ◌∷◌, refl, sym, ap, ◌∙◌, subst}
 use Rattle.std.proofs.lemmas.Bool.{eq-eqb}
-use Rattle.memory_contracts.specs.Carrier.{Flight}
 use Rattle.memory_contracts.specs.Protocol.Coherent.{Coherent, Fits, free, listing, to_invalidate, invalidated, answered, keeping, serving, to_recall, recalled_kept, recalled, to_grant, granted_owned, granted_shared, IsPromised, fresh, upgraded}
 use Rattle.memory_contracts.specs.Protocol.Events.{is_to_home}
 use Rattle.memory_contracts.specs.Protocol.Lines.{Cell, Stance, mailed, with_mail}
 use Rattle.memory_contracts.specs.Protocol.Messages.{Message, Grant}
 use Rattle.memory_contracts.specs.Protocol.Roles.{Role, role}
 use Rattle.memory_contracts.specs.Said.{said}
-use Rattle.node_memory.specs.Nodes.{awaits}
 use Rattle.node_memory.specs.Rows.{is_grant}
 use Rattle.coherent_memory.specs.Fine.{IsRightFlight}
 use Rattle.coherent_memory.specs.Laws.{GrantsAwaited}
@@ -58,8 +56,8 @@ grants_awaited laws n p i f s fine below at to grant =
     let m : Message = said f.message in
     let right : IsRightFlight n (is_kept n s) f = All-at_place (IsRightFlight n (is_kept n s)) s.carrier.flights i f fine.right.flights at in
     let co : Coherent n (content n s k) (with_mail (party f) m (line_of n r k)) =
-        laws.order n (content n s k) (line_of n s k) (with_mail (party f) m (line_of n r k)) (more_at (flight_more n i f s at)) (fine.lines k right.line) in
+    laws.order n (content n s k) (line_of n s k) (with_mail (party f) m (line_of n r k)) (more_at (flight_more n i f s at)) (fine.lines k right.line) in
     let here : (party f == p) ≡ true = eq-eqb (party f) p (ap (λ b. cond b f.message.from.0 f.to) (grant_to_node m grant) ∙ to) in
     let fits : Fits (content n s k) (mailed m ((line_of n r k).at p)) (role (line_of n r k).home p) =
-        subst (λ b. Fits (content n s k) (cond b (mailed m ((line_of n r k).at p)) ((line_of n r k).at p)) (role (line_of n r k).home p)) here (co.nodes p below) in
+    subst (λ b. Fits (content n s k) (cond b (mailed m ((line_of n r k).at p)) ((line_of n r k).at p)) (role (line_of n r k).home p)) here (co.nodes p below) in
     sym (all_mailed-register (between n r k p) (alone (s.nodes p) k)) ∙ grant_waits (content n s k) m ((line_of n r k).at p) (role (line_of n r k).home p) grant fits

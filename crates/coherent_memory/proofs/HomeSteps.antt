@@ -1,6 +1,6 @@
 -- A home takes a message, or serves a request that has waited.
-use Rattle.std.proofs.Common.{◌≡◌, ℕ, ◌<◌, Bool, true, false, cond, ◌&&◌, ◌==◌, ◌⊎◌, inl, inr, List, [], ◌∷◌, ◌++◌, All, Some, arith, refl, sym, ap, ap₂, ◌∙◌, subst}
-use Rattle.std.specs.List.{flat_map, remove, slice_get}
+use Rattle.std.proofs.Common.{◌≡◌, ℕ, ◌<◌, Bool, true, false, cond, ◌&&◌, ◌==◌, ◌⊎◌, inl, inr, List, [], ◌∷◌, ◌++◌, All, arith, refl, sym, ap, ap₂, ◌∙◌, subst}
+use Rattle.std.specs.List.{flat_map, remove}
 use Rattle.std.proofs.lemmas.Bool.{cases_Bool, eqb-true}
 use Rattle.std.proofs.lemmas.List.Elements.{All-append, All-push}
 use Rattle.memory_contracts.specs.Carrier.{Flight}
@@ -11,8 +11,7 @@ use Rattle.memory_contracts.specs.Protocol.HomeTable.{HomeStep, after_home, afte
 use Rattle.memory_contracts.specs.Protocol.Lines.{Cell, all_mailed, mailed, with_mail}
 use Rattle.memory_contracts.specs.Protocol.Messages.{Message}
 use Rattle.memory_contracts.specs.Said.{Letter, letter_of, said}
-use Rattle.memory_contracts.specs.Updates.{with_at}
-use Rattle.directory.specs.Homes.{HomeView, Serves, home_after, posts}
+use Rattle.directory.specs.Homes.{HomeView, home_after, posts}
 use Rattle.node_memory.specs.Nodes.{NodeView}
 use Rattle.coherent_memory.specs.Fine.{GoesRight, HasKept, IsFine, IsRight, IsRightFlight, IsRightHome, IsRightLetter, IsRightPost}
 use Rattle.coherent_memory.specs.Laws.{HomeTakesKeeps, ServingKeeps}
@@ -43,17 +42,17 @@ waits_more false l x letter waiting = AreReordered-refl _
 -- all that is said then, with what the home sends in front
 says_after : (l x now : ℕ) (letter : Letter) (v : HomeView) (flights : List Flight) (node : NodeView) →
     AreReordered (between_in l x (home_after letter now v) flights node)
-        (flat_map (of_post l x) (posts v.nodes letter.line now (step_at letter v).sent) ++ (if_waits (step_at letter v).waits (of_letter l x letter) ++ between_in l x v flights node))
+    (flat_map (of_post l x) (posts v.nodes letter.line now (step_at letter v).sent) ++ (if_waits (step_at letter v).waits (of_letter l x letter) ++ between_in l x v flights node))
 says_after l x now letter v flights node =
     let step = step_at letter v in
     let sent = posts v.nodes letter.line now step.sent in
     let after = home_after letter now v in
     AreReordered-trans
-        (more_to_send (to_be_sent l x after) (to_be_sent l x v) (under_way l x flights) (to_be_asked l node) (waiting_for l x after) (flat_map (of_post l x) sent)
-            (joined_all (of_post l x) v.outgoing sent))
-        (AreReordered-append (flat_map (of_post l x) sent) (flat_map (of_post l x) sent) _ _ (AreReordered-refl (flat_map (of_post l x) sent))
-            (more_waiting (to_be_sent l x v) (under_way l x flights) (to_be_asked l node) (waiting_for l x after) (waiting_for l x v) (if_waits step.waits (of_letter l x letter))
-                (waits_more step.waits l x letter v.waiting)))
+    (more_to_send (to_be_sent l x after) (to_be_sent l x v) (under_way l x flights) (to_be_asked l node) (waiting_for l x after) (flat_map (of_post l x) sent)
+    (joined_all (of_post l x) v.outgoing sent))
+    (AreReordered-append (flat_map (of_post l x) sent) (flat_map (of_post l x) sent) _ _ (AreReordered-refl (flat_map (of_post l x) sent))
+    (more_waiting (to_be_sent l x v) (under_way l x flights) (to_be_asked l node) (waiting_for l x after) (waiting_for l x v) (if_waits step.waits (of_letter l x letter))
+    (waits_more step.waits l x letter v.waiting)))
 
 waits_here : (waits b t : Bool) (m : Message) → b ≡ true → if_waits waits (if_about (b && t) m) ≡ if_about (waits && t) m
 waits_here true true t m e = refl
@@ -69,14 +68,14 @@ waits_there false false t m e = refl
 says_here : (x now : ℕ) (letter : Letter) (v : HomeView) (flights : List Flight) (node : NodeView)
     → x < v.nodes
     → AreReordered
-        (between_in letter.line x (home_after letter now v) flights node)
-        ((step_at letter v).sent x ++ (if_about ((step_at letter v).waits && (letter.from == x)) letter.message ++ between_in letter.line x v flights node))
+    (between_in letter.line x (home_after letter now v) flights node)
+    ((step_at letter v).sent x ++ (if_about ((step_at letter v).waits && (letter.from == x)) letter.message ++ between_in letter.line x v flights node))
 says_here x now letter v flights node below =
     let step = step_at letter v in
     AreReordered-trans (says_after letter.line x now letter v flights node)
-        (AreReordered-same (ap₂ (λ ms ks. ms ++ (ks ++ between_in letter.line x v flights node))
-            (posts-at v.nodes x letter.line now step.sent below)
-            (waits_here step.waits (letter.line == letter.line) (letter.from == x) letter.message (eqb-refl letter.line))))
+    (AreReordered-same (ap₂ (λ ms ks. ms ++ (ks ++ between_in letter.line x v flights node))
+    (posts-at v.nodes x letter.line now step.sent below)
+    (waits_here step.waits (letter.line == letter.line) (letter.from == x) letter.message (eqb-refl letter.line))))
 
 -- of any other line
 says_there : (l x now : ℕ) (letter : Letter) (v : HomeView) (flights : List Flight) (node : NodeView)
@@ -85,9 +84,9 @@ says_there : (l x now : ℕ) (letter : Letter) (v : HomeView) (flights : List Fl
 says_there l x now letter v flights node other =
     let step = step_at letter v in
     AreReordered-trans (says_after l x now letter v flights node)
-        (AreReordered-same (ap₂ (λ ms ks. ms ++ (ks ++ between_in l x v flights node))
-            (posts-other v.nodes l x letter.line now step.sent other)
-            (waits_there step.waits (letter.line == l) (letter.from == x) letter.message other)))
+    (AreReordered-same (ap₂ (λ ms ks. ms ++ (ks ++ between_in l x v flights node))
+    (posts-other v.nodes l x letter.line now step.sent other)
+    (waits_there step.waits (letter.line == l) (letter.from == x) letter.message other)))
 
 -- ---- the lines afterwards
 
@@ -117,17 +116,20 @@ line_step n p now letter r mine nodes = record {
   home = sym (ap (λ v. v.records k) at_home ∙ with_at-same (r.homes p).records k step.after);
   nodes = λ x below. mailed_after (step.sent x) (step.waits && (letter.from == x)) letter.message (between n r k x) (between n t k x) (alone (r.nodes x) k)
       (subst (λ v. AreReordered (between_in k x v r.carrier.flights (r.nodes x)) (step.sent x ++ (if_about (step.waits && (letter.from == x)) letter.message ++ between n r k x))) (sym at_home)
-          (subst (λ v. AreReordered (between_in k x (home_after letter now (r.homes p)) r.carrier.flights (r.nodes x)) (step.sent x ++ (if_about (step.waits && (letter.from == x)) letter.message ++ between_in k x v r.carrier.flights (r.nodes x))))
-              (ap r.homes (sym mine))
-              (says_here x now letter (r.homes p) r.carrier.flights (r.nodes x) (subst (λ m. x < m) (sym nodes) below))));
+      (subst (λ v. AreReordered (between_in k x (home_after letter now (r.homes p)) r.carrier.flights (r.nodes x)) (step.sent x ++ (if_about (step.waits && (letter.from == x)) letter.message ++ between_in k x v r.carrier.flights (r.nodes x))))
+      (ap r.homes (sym mine))
+      (says_here x now letter (r.homes p) r.carrier.flights (r.nodes x) (subst (λ m. x < m) (sym nodes) below))));
 }
   where
     k : ℕ
     k = letter.line
+
     step : HomeStep
     step = step_at letter (r.homes p)
+
     t : System
     t = taken p now letter r
+
     at_home : t.homes (home_number n k) ≡ home_after letter now (r.homes p)
     at_home = home_taken p (home_number n k) now letter r mine
 
@@ -137,8 +139,8 @@ line_taken : (n p now : ℕ) (letter : Letter) (r : System)
     → AreAlike n (after_home (r.homes p).protocol n letter.from letter.message (line_of n r letter.line)) (line_of n (taken p now letter r) letter.line)
 line_taken n p now letter r mine nodes =
     subst (λ step. AreAlike n (after_step step letter.from letter.message (line_of n r letter.line)) (line_of n (taken p now letter r) letter.line))
-        (ap₂ (λ m h. home_takes (r.homes p).protocol m letter.from letter.message h) nodes (ap (λ q. (r.homes q).records letter.line) (sym mine)))
-        (line_step n p now letter r mine nodes)
+    (ap₂ (λ m h. home_takes (r.homes p).protocol m letter.from letter.message h) nodes (ap (λ q. (r.homes q).records letter.line) (sym mine)))
+    (line_step n p now letter r mine nodes)
 
 -- any other line: as before
 line_stays : (n p now : ℕ) (letter : Letter) (r : System) (l : ℕ) → (letter.line == l) ≡ false → IsSameLine n l r (taken p now letter r)
@@ -150,8 +152,8 @@ line_stays n p now letter r l other = record {
   registers = λ x. refl;
   messages = λ x. with_at-both (λ v. AreReordered (between n r l x) (between_in l x v r.carrier.flights (r.nodes x))) r.homes p after (home_number n l)
       (λ here. AreReordered-trans
-          (AreReordered-same (ap (λ q. between_in l x (r.homes q) r.carrier.flights (r.nodes x)) here))
-          (AreReordered-sym (says_there l x now letter (r.homes p) r.carrier.flights (r.nodes x) other)))
+      (AreReordered-same (ap (λ q. between_in l x (r.homes q) r.carrier.flights (r.nodes x)) here))
+      (AreReordered-sym (says_there l x now letter (r.homes p) r.carrier.flights (r.nodes x) other)))
       (λ there. AreReordered-refl (between n r l x));
 }
   where
@@ -172,7 +174,7 @@ right_after n kept p now letter v right home =
       nodes = home.nodes;
       outgoing = All-append (IsRightPost n kept p) v.outgoing (posts v.nodes letter.line now step.sent) home.outgoing
           (right_posts v.nodes n kept p letter.line now step.sent (omega (arith, home.nodes)) right.line right.home
-              (row_sends v.protocol v.nodes (v.records letter.line) (v.records letter.line).phase (v.records letter.line).owner letter.from letter.message));
+          (row_sends v.protocol v.nodes (v.records letter.line) (v.records letter.line).phase (v.records letter.line).owner letter.from letter.message));
       waiting = waits_right step.waits (IsRightLetter n kept p) letter v.waiting right home.waiting;
     }
 
@@ -189,25 +191,27 @@ taken_keeps : ProtocolLaws → (n p now : ℕ) (letter : Letter) (s r : System)
     → HasKept n s (taken p now letter r)
 taken_keeps laws n p now letter s r fine below same right of_letter more =
     keeps laws n s (taken p now letter r) fine.some
-        (kept_with_home n p (home_after letter now (r.homes p)) r refl ∙ same)
-        (right_with_home p (home_after letter now (r.homes p)) right (λ known. right_after n (is_kept n s) p now letter (r.homes p) of_letter home))
-        (λ l kept. by l kept (cases_Bool (letter.line == l)))
+    (kept_with_home n p (home_after letter now (r.homes p)) r refl ∙ same)
+    (right_with_home p (home_after letter now (r.homes p)) right (λ known. right_after n (is_kept n s) p now letter (r.homes p) of_letter home))
+    (λ l kept. by l kept (cases_Bool (letter.line == l)))
   where
     home : IsRightHome n (is_kept n s) p (r.homes p)
     home = right.homes p below
+
     here : Coherent n (content n s letter.line) (line_of n (taken p now letter r) letter.line)
     here =
         let g : List ℕ = content n s letter.line in
         let rest = line_of n r letter.line in
         let before : Coherent n g (with_mail letter.from letter.message rest) = laws.order n g (line_of n s letter.line) (with_mail letter.from letter.message rest) (more_at more) (fine.lines letter.line of_letter.line) in
         laws.order n g (after_home (r.homes p).protocol n letter.from letter.message rest) (line_of n (taken p now letter r) letter.line)
-            (line_taken n p now letter r of_letter.home home.nodes)
-            (home_takes_keeps laws (r.homes p).protocol n letter.from letter.message g rest of_letter.from of_letter.kind before)
+        (line_taken n p now letter r of_letter.home home.nodes)
+        (home_takes_keeps laws (r.homes p).protocol n letter.from letter.message g rest of_letter.from of_letter.kind before)
+
     by : (l : ℕ) → is_kept n s l ≡ true → ((letter.line == l) ≡ true) ⊎ ((letter.line == l) ≡ false) → Coherent n (content n s l) (line_of n (taken p now letter r) l)
     by l kept (inl e) = subst (λ l. Coherent n (content n s l) (line_of n (taken p now letter r) l)) (eqb-true letter.line l e) here
     by l kept (inr e) =
         laws.order n (content n s l) (line_of n r l) (line_of n (taken p now letter r) l) (same_alike (line_stays n p now letter r l e))
-            (laws.order n (content n s l) (line_of n s l) (line_of n r l) (more_away more l e) (fine.lines l kept))
+        (laws.order n (content n s l) (line_of n s l) (line_of n r l) (more_away more l e) (fine.lines l kept))
 
 -- from under way
 letter_right : (n : ℕ) (kept : ℕ → Bool) (p : ℕ) (f : Flight) → f.to ≡ p → is_to_home (said f.message) ≡ true → IsRightFlight n kept f → IsRightLetter n kept p (letter_of f.message)
@@ -224,6 +228,45 @@ pub home_takes_message : ProtocolLaws → HomeTakesKeeps
 home_takes_message laws n p now i f s fine below at to kind =
     let right : IsRightFlight n (is_kept n s) f = All-at_place (IsRightFlight n (is_kept n s)) s.carrier.flights i f fine.right.flights at in
     taken_keeps laws n p now (letter_of f.message) s (without_flight i s) fine below refl
-        (right_with_carrier (without_flight i s).carrier fine.right (All-remove (IsRightFlight n (is_kept n s)) s.carrier.flights i fine.right.flights))
-        (letter_right n (is_kept n s) p f to kind right)
-        (more_as refl (ap (λ b. cond b f.message.from.0 f.to) kind) refl (flight_more n i f s at))
+    (right_with_carrier (without_flight i s).carrier fine.right (All-remove (IsRightFlight n (is_kept n s)) s.carrier.flights i fine.right.flights))
+    (letter_right n (is_kept n s) p f to kind right)
+    (more_as refl (ap (λ b. cond b f.message.from.0 f.to) kind) refl (flight_more n i f s at))
+
+-- from among those that wait
+with_home-twice : (p : ℕ) (a b : HomeView) (s : System) → with_home p a (with_home p b s) ≡ with_home p a s
+with_home-twice p a b s = λ i. record { homes = λ q. once (q == p) (s.homes q) i; nodes = s.nodes; carrier = s.carrier }
+  where
+    once : (t : Bool) (v : HomeView) → cond t a (cond t b v) ≡ cond t a v
+    once true v = refl
+    once false v = refl
+
+pub serving_keeps : ProtocolLaws → ServingKeeps
+serving_keeps laws n p now line home s fine below serves =
+    subst (λ t. HasKept n s t) same
+    (taken_keeps laws n p now letter s r fine below
+    (kept_with_home n p left s refl)
+    (right_with_home p left fine.right (λ known. record {
+      at = (fine.right.homes p below).at;
+      nodes = (fine.right.homes p below).nodes;
+      outgoing = (fine.right.homes p below).outgoing;
+      waiting = All-remove (IsRightLetter n (is_kept n s) p) (s.homes p).waiting serves.place (fine.right.homes p below).waiting;
+    }))
+    right
+    (letter_more n p serves.place letter s right.home serves.stands))
+  where
+    letter : Letter
+    letter = serves.letter
+
+    left : HomeView
+    left = record (s.homes p) { waiting = remove (s.homes p).waiting serves.place }
+
+    r : System
+    r = with_home p left s
+
+    right : IsRightLetter n (is_kept n s) p letter
+    right = All-at_place (IsRightLetter n (is_kept n s) p) (s.homes p).waiting serves.place letter (fine.right.homes p below).waiting serves.stands
+
+    same : taken p now letter r ≡ with_home p home s
+    same =
+        ap (λ v. with_home p (home_after letter now v) r) (with_at-same s.homes p left)
+        ∙ (with_home-twice p (home_after letter now left) left s ∙ ap (λ v. with_home p v s) (sym serves.after))

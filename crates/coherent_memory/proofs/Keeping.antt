@@ -1,9 +1,9 @@
 -- What the protocol's laws give for a line of memory, and what shows that memory is kept.
-use Rattle.std.proofs.Common.{◌≡◌, ℕ, ◌<◌, Bool, true, List, refl, sym, ap, ◌∙◌, subst}
+use Rattle.std.proofs.Common.{◌≡◌, ℕ, ◌<◌, true, List, refl, sym, ap, ◌∙◌, subst}
 use Rattle.machine_config.specs.declared.config.Protocol.{Protocol}
 use Rattle.memory_contracts.specs.Protocol.Alike.{AreAlike}
 use Rattle.memory_contracts.specs.Protocol.Coherent.{Coherent}
-use Rattle.memory_contracts.specs.Protocol.Events.{Event, HomeTakes, NodeTakes, Moment, becomes, is_to_home, is_to_node}
+use Rattle.memory_contracts.specs.Protocol.Events.{HomeTakes, NodeTakes, Moment, becomes, is_to_home, is_to_node}
 use Rattle.memory_contracts.specs.Protocol.HomeTable.{after_home}
 use Rattle.memory_contracts.specs.Protocol.Laws.{CurrentIsContent, EventsKeepCoherence, GrantsAreAwaited, OneFromHome, OrderIsFree, OwnedHasContent, OwnedIsAlone}
 use Rattle.memory_contracts.specs.Protocol.Lines.{LineState, with_cell, with_mail}

@@ -1,11 +1,11 @@
 -- Lines of two systems that are alike, and a system that has one message more than another.
-use Rattle.std.proofs.Common.{◌≡◌, ℕ, ◌<◌, Bool, true, false, cond, ◌&&◌, ◌==◌, List, [], ◌∷◌, ◌++◌, refl, sym, ap, ap₂, ◌∙◌, subst}
+use Rattle.std.proofs.Common.{◌≡◌, ℕ, Bool, true, false, cond, ◌&&◌, ◌==◌, List, [], ◌++◌, refl, sym, ap₂, ◌∙◌, subst}
 use Rattle.memory_contracts.specs.Protocol.Alike.{IsAlike, AreAlike}
 use Rattle.memory_contracts.specs.Protocol.Lines.{Cell, Copy, cell, stance, mailed, all_mailed, with_mail}
 use Rattle.memory_contracts.specs.Protocol.Messages.{Message}
-use Rattle.node_memory.specs.Nodes.{NodeView, awaits, copy_of}
+use Rattle.node_memory.specs.Nodes.{awaits, copy_of}
 use Rattle.coherent_memory.specs.Systems.{System, alone, between, home_at, if_about, line_of}
-use Rattle.coherent_memory.proofs.Alike.{AreReordered, AreReordered-sym, AreReordered-trans, IsAlike-sym, IsAlike-trans}
+use Rattle.coherent_memory.proofs.Alike.{AreReordered, AreReordered-sym, AreReordered-trans}
 use Rattle.coherent_memory.proofs.Places.{eqb-refl}
 
 -- ---- cells with nothing under way

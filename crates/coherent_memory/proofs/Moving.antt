@@ -1,16 +1,15 @@
 -- Messages that go on their way: what a home or a node has to send is under way then.
-use Rattle.std.proofs.Common.{◌≡◌, ℕ, ◌<◌, Bool, true, false, cond, List, [], ◌∷◌, Option, None, Some, drop, refl, sym, ap, ◌∙◌, subst}
+use Rattle.std.proofs.Common.{◌≡◌, ℕ, ◌<◌, Bool, true, false, cond, List, [], ◌∷◌, None, Some, drop, refl, sym, ap, ◌∙◌, subst}
 use Rattle.std.specs.List.{slice_get}
 use Rattle.std.specs.Option.{option_map}
 use Rattle.std.proofs.lemmas.List.Elements.{All-drop}
-use Rattle.memory_contracts.specs.Carrier.{sends}
 use Rattle.memory_contracts.specs.Protocol.Events.{is_to_home, is_to_node}
 use Rattle.memory_contracts.specs.Said.{Mail, said}
-use Rattle.directory.specs.Homes.{HomeView, Post, first_outgoing, mail_of, may_go}
-use Rattle.node_memory.specs.Nodes.{NodeView, without_first_mail}
+use Rattle.directory.specs.Homes.{Post, first_outgoing, mail_of, may_go}
+use Rattle.node_memory.specs.Nodes.{without_first_mail}
 use Rattle.coherent_memory.specs.Fine.{IsRightMail, IsRightPost}
 use Rattle.coherent_memory.specs.Laws.{MailKeeps, PostKeeps}
-use Rattle.coherent_memory.specs.Systems.{System, home_number, is_kept}
+use Rattle.coherent_memory.specs.Systems.{home_number, is_kept}
 use Rattle.coherent_memory.specs.Turns.{posted, without_mail, without_post}
 use Rattle.coherent_memory.proofs.Adding.{mail_more, more_as, post_more, posted_more}
 use Rattle.coherent_memory.proofs.Keeping.{ProtocolLaws, keeps_alike}
@@ -37,19 +36,19 @@ post_keeps laws n p now mail m s fine below next saying room =
     let to : mail.to ≡ post.to = ap (λ mail. mail.to) (sym as_mail) in
     let kind : is_to_node (said m) ≡ true = ap is_to_node words ∙ right.kind in
     let after : HasMore n post.line post.to post.message (without_post p s) (posted p mail.to m (without_post p s)) =
-        more_as same (ap (λ b. cond b m.from.0 mail.to) (to_node_only (said m) kind) ∙ to) words (posted_more n p mail.to m (without_post p s) room) in
+    more_as same (ap (λ b. cond b m.from.0 mail.to) (to_node_only (said m) kind) ∙ to) words (posted_more n p mail.to m (without_post p s) room) in
     let home = record (s.homes p) { outgoing = drop 1 (s.homes p).outgoing } in
     keeps_alike laws n s (without_post p (posted p mail.to m s)) fine
-        (kept_with_home n p home (posted p mail.to m s) refl)
-        (right_with_home p home
-            (right_posted p mail.to m room fine.right (right_to_node s.carrier p mail.to m (ap (is_kept n s) same ∙ right.line) (subst (λ x. x < n) (sym to) right.to) kind))
-            (λ known. record {
-              at = (fine.right.homes p below).at;
-              nodes = (fine.right.homes p below).nodes;
-              outgoing = All-drop (IsRightPost n (is_kept n s) p) 1 (s.homes p).outgoing (fine.right.homes p below).outgoing;
-              waiting = (fine.right.homes p below).waiting;
-            }))
-        (λ l. same_alike (moved (post_more n p post s right.home first) after l))
+    (kept_with_home n p home (posted p mail.to m s) refl)
+    (right_with_home p home
+    (right_posted p mail.to m room fine.right (right_to_node s.carrier p mail.to m (ap (is_kept n s) same ∙ right.line) (subst (λ x. x < n) (sym to) right.to) kind))
+    (λ known. record {
+      at = (fine.right.homes p below).at;
+      nodes = (fine.right.homes p below).nodes;
+      outgoing = All-drop (IsRightPost n (is_kept n s) p) 1 (s.homes p).outgoing (fine.right.homes p below).outgoing;
+      waiting = (fine.right.homes p below).waiting;
+    }))
+    (λ l. same_alike (moved (post_more n p post s right.home first) after l))
 
 -- ---- of a node
 
@@ -60,18 +59,18 @@ mail_keeps laws n p mail m s fine below first saying room =
     let words : said m ≡ mail.message = ap (λ mail. mail.message) saying.says in
     let kind : is_to_home (said m) ≡ true = ap is_to_home words ∙ right.kind in
     let after : HasMore n mail.line p mail.message (without_mail p s) (posted p mail.to m (without_mail p s)) =
-        more_as same (ap (λ b. cond b m.from.0 mail.to) kind ∙ saying.from) words (posted_more n p mail.to m (without_mail p s) room) in
+    more_as same (ap (λ b. cond b m.from.0 mail.to) kind ∙ saying.from) words (posted_more n p mail.to m (without_mail p s) room) in
     let node = fine.right.nodes p below in
     keeps_alike laws n s (without_mail p (posted p mail.to m s)) fine
-        refl
-        (right_with_node p (without_first_mail (s.nodes p))
-            (right_posted p mail.to m room fine.right
-                (right_to_home s.carrier p mail.to m fine.some (ap (is_kept n s) same ∙ right.line) (right.to ∙ ap (λ l. home_number n l) (sym same)) (subst (λ x. x < n) (sym saying.from) below) kind))
-            (λ known. record {
-              at = node.at;
-              nodes = node.nodes;
-              outbox = All-drop (IsRightMail n (is_kept n s)) 1 (s.nodes p).outbox node.outbox;
-              wishes = node.wishes;
-              copies = node.copies;
-            }))
-        (λ l. same_alike (moved (mail_more n p mail s first) after l))
+    refl
+    (right_with_node p (without_first_mail (s.nodes p))
+    (right_posted p mail.to m room fine.right
+    (right_to_home s.carrier p mail.to m fine.some (ap (is_kept n s) same ∙ right.line) (right.to ∙ ap (λ l. home_number n l) (sym same)) (subst (λ x. x < n) (sym saying.from) below) kind))
+    (λ known. record {
+      at = node.at;
+      nodes = node.nodes;
+      outbox = All-drop (IsRightMail n (is_kept n s)) 1 (s.nodes p).outbox node.outbox;
+      wishes = node.wishes;
+      copies = node.copies;
+    }))
+    (λ l. same_alike (moved (mail_more n p mail s first) after l))

@@ -2,7 +2,7 @@
 use Rattle.std.proofs.Common.{◌≡◌, ℕ, ◌<◌, Bool, true, false, cond, All, [], ◌∷◌, ◌++◌, refl, sym, ap, ◌∙◌, subst}
 use Rattle.std.proofs.lemmas.List.Elements.{All-push}
 use Rattle.std.proofs.lemmas.Nat.{mod_below}
-use Rattle.memory_contracts.specs.Carrier.{CarrierView, Flight, sends}
+use Rattle.memory_contracts.specs.Carrier.{CarrierView, sends}
 use Rattle.memory_contracts.specs.Protocol.Events.{is_to_home, is_to_node}
 use Rattle.memory_contracts.specs.Protocol.Messages as Says
 use Rattle.memory_contracts.specs.Protocol.Messages.{GetS, GetM, Put, Inv, Recall, Grant, PutAck, InvAck, RecallAck, Done}
@@ -92,6 +92,6 @@ pub right_posted : {n : ℕ} {kept : ℕ → Bool} {s : System} (p to : ℕ) (m 
     → IsRight n kept (posted p to m s)
 right_posted {n = n} {kept = kept} {s = s} p to m room right sent =
     subst (λ b. IsRight n kept (with_carrier (cond b s.carrier (record (s.carrier) { flights = s.carrier.flights ++ sends s.carrier p to m ∷ [] })) s))
-        (sym room)
-        (right_with_carrier (record (s.carrier) { flights = s.carrier.flights ++ sends s.carrier p to m ∷ [] }) right
-            (All-push (IsRightFlight n kept) s.carrier.flights (sends s.carrier p to m) right.flights sent))
+    (sym room)
+    (right_with_carrier (record (s.carrier) { flights = s.carrier.flights ++ sends s.carrier p to m ∷ [] }) right
+    (All-push (IsRightFlight n kept) s.carrier.flights (sends s.carrier p to m) right.flights sent))

@@ -1,5 +1,5 @@
 -- What a row of the home's table sends: to which nodes, and that it is for nodes alone.
-use Rattle.std.proofs.Common.{◌≡◌, ℕ, zero, suc, ◌<◌, ◌≤◌, Bool, true, false, cond, not, ◌&&◌, ◌==◌, List, [], ◌∷◌, ◌++◌, map, Option, None, Some, All, refl, sym, ap, ap₂, ◌∙◌, append-nil, arith}
+use Rattle.std.proofs.Common.{◌≡◌, ℕ, zero, suc, ◌<◌, ◌≤◌, Bool, true, false, cond, not, ◌&&◌, ◌==◌, List, [], ◌∷◌, ◌++◌, map, Option, None, Some, All, refl, ap, ap₂, ◌∙◌, append-nil, arith}
 use Rattle.std.specs.List.{flat_map}
 use Rattle.std.proofs.lemmas.Bool.{and_from, and_left, and_right, cond_both, eqb-false, eqb-true, ne_eqb}
 use Rattle.std.proofs.lemmas.List.Concat.{flat_map-append}
@@ -7,7 +7,7 @@ use Rattle.std.proofs.lemmas.List.Elements.{All-append, All-cons, All-map, All-n
 use Rattle.std.proofs.lemmas.List.Folds.{flat_map-map}
 use Rattle.machine_config.specs.declared.config.Protocol.{Protocol}
 use Rattle.memory_contracts.specs.Protocol.Events.{is_to_node}
-use Rattle.memory_contracts.specs.Protocol.HomeTable.{HomeStep, collects, grants_owned, grants_shared, home_row, is_mesi, is_owner, nothing, recalls, to_each, to_none, to_one}
+use Rattle.memory_contracts.specs.Protocol.HomeTable.{HomeStep, collects, grants_owned, grants_shared, home_row, is_mesi, nothing, to_none, to_one}
 use Rattle.memory_contracts.specs.Protocol.Lines.{HomeRecord, Phase, Idle, Collecting, Recalling, Granting, besides, is_some_node, joined, nobody}
 use Rattle.memory_contracts.specs.Protocol.Messages.{Message, GetS, GetM, Put, Inv, Recall, Grant, PutAck, InvAck, RecallAck, Done}
 use Rattle.directory.specs.Homes.{post_to, posts}
@@ -84,34 +84,34 @@ none_sent y = All-nil ToNode
 pub row_sends : (protocol : Protocol) (n : ℕ) (h : HomeRecord) (phase : Phase) (owner : Option ℕ) (p : ℕ) (m : Message) → SendsToNodes (home_row protocol n h phase owner p m)
 row_sends protocol n h Idle None p GetS =
     cond_both (is_mesi protocol && not (is_some_node n h.sharers)) (grants_owned p h.sharers h.memory) (grants_shared p (joined p h.sharers) h.memory) SendsToNodes
-        (λ e. one_sent p (Grant true h.memory) refl)
-        (λ e. one_sent p (Grant false h.memory) refl)
+    (λ e. one_sent p (Grant true h.memory) refl)
+    (λ e. one_sent p (Grant false h.memory) refl)
 row_sends protocol n h Idle (Some q) p GetS = one_sent q (Recall false) refl
 row_sends protocol n h Idle (Some q) p GetM = one_sent q (Recall true) refl
 row_sends protocol n h Idle None p GetM =
     cond_both (is_some_node n (besides p h.sharers)) (collects p (besides p h.sharers) h) (grants_owned p nobody h.memory) SendsToNodes
-        (λ e y. if_sent (besides p h.sharers y) Inv refl)
-        (λ e. one_sent p (Grant true h.memory) refl)
+    (λ e y. if_sent (besides p h.sharers y) Inv refl)
+    (λ e. one_sent p (Grant true h.memory) refl)
 row_sends protocol n h Idle None p (Put bytes) = one_sent p PutAck refl
 row_sends protocol n h Idle (Some q) p (Put bytes) =
     cond_both (q == p) (record { after = record h { owner = None; memory = bytes }; waits = false; sent = to_one p PutAck }) (record { after = h; waits = false; sent = to_one p PutAck }) SendsToNodes
-        (λ e. one_sent p PutAck refl)
-        (λ e. one_sent p PutAck refl)
+    (λ e. one_sent p PutAck refl)
+    (λ e. one_sent p PutAck refl)
 row_sends protocol n h phase owner p GetS = none_sent
 row_sends protocol n h phase owner p GetM = none_sent
 row_sends protocol n h phase owner p (Put bytes) = none_sent
 row_sends protocol n h (Collecting p left) owner q InvAck =
     cond_both (is_some_node n (besides q left)) (record { after = record h { phase = Collecting p (besides q left) }; waits = false; sent = to_none }) (grants_owned p nobody h.memory) SendsToNodes
-        (λ e. none_sent)
-        (λ e. one_sent p (Grant true h.memory) refl)
+    (λ e. none_sent)
+    (λ e. one_sent p (Grant true h.memory) refl)
 row_sends protocol n h (Recalling q p false) owner x (RecallAck kept bytes) =
     cond_both (q == x) (grants_shared p (joined p (cond kept (joined q nobody) nobody)) bytes) (nothing h) SendsToNodes
-        (λ e. one_sent p (Grant false bytes) refl)
-        (λ e. none_sent)
+    (λ e. one_sent p (Grant false bytes) refl)
+    (λ e. none_sent)
 row_sends protocol n h (Recalling q p true) owner x (RecallAck kept bytes) =
     cond_both (q == x) (grants_owned p nobody bytes) (nothing h) SendsToNodes
-        (λ e. one_sent p (Grant true bytes) refl)
-        (λ e. none_sent)
+    (λ e. one_sent p (Grant true bytes) refl)
+    (λ e. none_sent)
 row_sends protocol n h (Granting p) owner x Done =
     cond_both (p == x) (record { after = record h { phase = Idle }; waits = false; sent = to_none }) (nothing h) SendsToNodes (λ e. none_sent) (λ e. none_sent)
 row_sends protocol n h phase owner x m = none_sent
@@ -127,6 +127,6 @@ pub right_posts : (m n : ℕ) (kept : ℕ → Bool) (p line now : ℕ) (sent : �
 right_posts zero n kept p line now sent few is_kept mine kinds = All-nil (IsRightPost n kept p)
 right_posts (suc m) n kept p line now sent few is_kept mine kinds =
     All-append (IsRightPost n kept p) (posts m line now sent) (map (post_to line now m) (sent m))
-        (right_posts m n kept p line now sent (omega (arith, few)) is_kept mine kinds)
-        (All-map (IsRightPost n kept p) (post_to line now m) (sent m)
-            (All-weaker ToNode (λ k. IsRightPost n kept p (post_to line now m k)) (λ k kind. record { line = is_kept; home = mine; to = few; kind = kind }) (sent m) (kinds m)))
+    (right_posts m n kept p line now sent (omega (arith, few)) is_kept mine kinds)
+    (All-map (IsRightPost n kept p) (post_to line now m) (sent m)
+    (All-weaker ToNode (λ k. IsRightPost n kept p (post_to line now m k)) (λ k kind. record { line = is_kept; home = mine; to = few; kind = kind }) (sent m) (kinds m)))

@@ -1,12 +1,11 @@
 -- What says nothing new: the carrier ticks, and a node reads or wishes.
-use Rattle.std.proofs.Common.{◌≡◌, ℕ, ◌<◌, Bool, List, All, length, map, get_or, ◌++◌, refl, sym, ap, ◌∙◌, subst}
+use Rattle.std.proofs.Common.{◌≡◌, ℕ, ◌<◌, Bool, List, All, map, ◌++◌, refl, sym, ap, ◌∙◌, subst}
 use Rattle.std.specs.List.{flat_map}
 use Rattle.std.proofs.lemmas.List.{length-map}
 use Rattle.std.proofs.lemmas.List.Elements.{All-map, All-weaker}
 use Rattle.std.proofs.lemmas.List.Folds.{flat_map-map}
 use Rattle.std.proofs.Math.ListN.{get_or-map}
 use Rattle.memory_contracts.specs.Carrier.{CarrierView, Flight, unmarked}
-use Rattle.memory_contracts.specs.Protocol.Lines.{Copy}
 use Rattle.memory_contracts.specs.Protocol.NodeTable.{is_held}
 use Rattle.memory_contracts.specs.Said.{Mail}
 use Rattle.node_memory.specs.Nodes.{NodeView, awaits, copy_of}
@@ -43,9 +42,9 @@ All-mapped P f xs all k d below = subst P (get_or-map f xs k d) (all k (f d) (su
 right_flights : (n : ℕ) (kept : ℕ → Bool) (old new : List Flight) → map unmarked new ≡ map unmarked old → All (IsRightFlight n kept) old → All (IsRightFlight n kept) new
 right_flights n kept old new same right =
     All-weaker (λ f. IsRightFlight n kept (unmarked f)) (IsRightFlight n kept) (λ f. right_unmarked f) new
-        (All-mapped (IsRightFlight n kept) unmarked new
-            (subst (λ fs. All (IsRightFlight n kept) fs) (sym same)
-                (All-map (IsRightFlight n kept) unmarked old (All-weaker (IsRightFlight n kept) (λ f. IsRightFlight n kept (unmarked f)) (λ f. right_marked f) old right))))
+    (All-mapped (IsRightFlight n kept) unmarked new
+    (subst (λ fs. All (IsRightFlight n kept) fs) (sym same)
+    (All-map (IsRightFlight n kept) unmarked old (All-weaker (IsRightFlight n kept) (λ f. IsRightFlight n kept (unmarked f)) (λ f. right_marked f) old right))))
 
 same_with_carrier : (n l : ℕ) (carrier : CarrierView) (s : System) → map unmarked carrier.flights ≡ map unmarked s.carrier.flights → IsSameLine n l s (with_carrier carrier s)
 same_with_carrier n l carrier s same = record {
@@ -59,9 +58,9 @@ same_with_carrier n l carrier s same = record {
 pub carrying_keeps : ProtocolLaws → CarryingKeeps
 carrying_keeps laws n carrier s fine ticks =
     keeps_alike laws n s (with_carrier carrier s) fine
-        refl
-        (right_with_carrier carrier fine.right (right_flights n (is_kept n s) s.carrier.flights carrier.flights ticks.stay fine.right.flights))
-        (λ l. same_alike (same_with_carrier n l carrier s ticks.stay))
+    refl
+    (right_with_carrier carrier fine.right (right_flights n (is_kept n s) s.carrier.flights carrier.flights ticks.stay fine.right.flights))
+    (λ l. same_alike (same_with_carrier n l carrier s ticks.stay))
 
 -- ---- a node of which the protocol sees the same
 
@@ -72,7 +71,7 @@ same_with_node n l p v s same = record {
   registers = λ x. with_at-both (λ w. awaits (s.nodes x) l ≡ awaits w l) s.nodes p v x (λ here. ap (λ q. awaits (s.nodes q) l) here ∙ sym (ap (λ side. side.registers l) same)) (λ other. refl);
   messages = λ x. with_at-both (λ w. AreReordered (between n s l x) (between_in l x (home_at n s l) s.carrier.flights w)) s.nodes p v x
       (λ here. AreReordered-same (ap (λ (outbox : List Mail). to_be_sent l x (home_at n s l) ++ (under_way l x s.carrier.flights ++ (flat_map (of_mail l) outbox ++ waiting_for l x (home_at n s l))))
-          (ap (λ q. (s.nodes q).outbox) here ∙ sym (ap (λ side. side.outbox) same))))
+      (ap (λ q. (s.nodes q).outbox) here ∙ sym (ap (λ side. side.outbox) same))))
       (λ other. AreReordered-refl (between n s l x));
 }
 
@@ -80,12 +79,12 @@ pub nothing_keeps : ProtocolLaws → NothingKeeps
 nothing_keeps laws n p v s fine below same at wishes =
     let node = fine.right.nodes p below in
     keeps_alike laws n s (with_node p v s) fine
-        refl
-        (right_with_node p v fine.right (λ known. record {
-          at = at ∙ node.at;
-          nodes = ap (λ side. side.nodes) same ∙ node.nodes;
-          outbox = subst (λ outbox. All (IsRightMail n (is_kept n s)) outbox) (sym (ap (λ side. side.outbox) same)) node.outbox;
-          wishes = wishes;
-          copies = λ l held. node.copies l (ap is_held (sym (ap (λ side. side.copies l) same)) ∙ held);
-        }))
-        (λ l. same_alike (same_with_node n l p v s same))
+    refl
+    (right_with_node p v fine.right (λ known. record {
+      at = at ∙ node.at;
+      nodes = ap (λ side. side.nodes) same ∙ node.nodes;
+      outbox = subst (λ outbox. All (IsRightMail n (is_kept n s)) outbox) (sym (ap (λ side. side.outbox) same)) node.outbox;
+      wishes = wishes;
+      copies = λ l held. node.copies l (ap is_held (sym (ap (λ side. side.copies l) same)) ∙ held);
+    }))
+    (λ l. same_alike (same_with_node n l p v s same))
