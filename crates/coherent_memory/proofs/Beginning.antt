@@ -181,10 +181,10 @@ begin_keeps laws node n p now s fine below sound =
     let before = fine.right.nodes p below in
     keeps laws n s (begun p now s) fine.some refl
     (right_with_node p w fine.right (λ inside. right-node n (is_kept n s) p w
-        (begins-at now v ∙ before.at)
-        (left-all (λ (w : Wish). is_kept n s w.line ≡ true) w.wishes v.wishes (node.wishes now v) before.wishes)
-        (right-begins n (is_kept n s) v.wishes (side_of v) (side_of w) (begins now v).lost begun_as before.wishes (right-side n (is_kept n s) p v before))))
+    (begins-at now v ∙ before.at)
+    (left-all (λ (w : Wish). is_kept n s w.line ≡ true) w.wishes v.wishes (node.wishes now v) before.wishes)
+    (right-begins n (is_kept n s) v.wishes (side_of v) (side_of w) (begins now v).lost begun_as before.wishes (right-side n (is_kept n s) p v before))))
     (λ l kept.
-        subst (λ m. Coherent n (content n s l) m) (seen-other n s p w l)
-        (begins-keep laws n p s below v.wishes (side_of v) (side_of w) (begins now v).lost begun_as l (content n s l)
-        (subst (λ m. Coherent n (content n s l) m) (sym (seen-own n s p l)) (fine.lines l kept))))
+    subst (λ m. Coherent n (content n s l) m) (seen-other n s p w l)
+    (begins-keep laws n p s below v.wishes (side_of v) (side_of w) (begins now v).lost begun_as l (content n s l)
+    (subst (λ m. Coherent n (content n s l) m) (sym (seen-own n s p l)) (fine.lines l kept))))

@@ -49,9 +49,9 @@ once-append : (xs ys : List (Node × Line)) → are_once xs ≡ true → are_onc
 once-append [] ys first second apart = second
 once-append (x ∷ xs) ys first second apart =
     let new : is_among (xs ++ ys) x.0.0 x.1.0 ≡ false =
-        among-append xs ys x.0.0 x.1.0
-        ∙ ap (λ b. b || is_among ys x.0.0 x.1.0) (not-true (is_among xs x.0.0 x.1.0) (and-left (not (is_among xs x.0.0 x.1.0)) (are_once xs) first))
-        ∙ apart x.0.0 x.1.0 (here x xs) in
+    among-append xs ys x.0.0 x.1.0
+    ∙ ap (λ b. b || is_among ys x.0.0 x.1.0) (not-true (is_among xs x.0.0 x.1.0) (and-left (not (is_among xs x.0.0 x.1.0)) (are_once xs) first))
+    ∙ apart x.0.0 x.1.0 (here x xs) in
     let rest = once-append xs ys (and-right (not (is_among xs x.0.0 x.1.0)) (are_once xs) first) second (λ p l e. apart p l (later x xs p l e)) in
     ap (λ b. not b && are_once (xs ++ ys)) new ∙ rest
 

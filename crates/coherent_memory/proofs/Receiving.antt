@@ -33,7 +33,7 @@ use Rattle.coherent_memory.proofs.Sides.{ChangesAt, changes-away, changes-there,
 
 takes-changes : (m : Letter) (a : Side)
     → ChangesAt m.line (node_takes m.message (a.copies m.line) (a.registers m.line)).sent (node_takes m.message (a.copies m.line) (a.registers m.line)).copy
-      (node_takes m.message (a.copies m.line) (a.registers m.line)).register a (takes_message m a)
+    (node_takes m.message (a.copies m.line) (a.registers m.line)).register a (takes_message m a)
 takes-changes m a = record {
   there_copy = with_at-same a.copies m.line (node_takes m.message (a.copies m.line) (a.registers m.line)).copy;
   there_register = with_at-same a.registers m.line (node_takes m.message (a.copies m.line) (a.registers m.line)).register;
@@ -85,7 +85,7 @@ module _ (laws : ProtocolLaws) (n p : ℕ) (m : Letter) (r s : System) (below : 
       let a = side_of (r.nodes p) in
       let l = line_of n r m.line in
       let done : Coherent n g (with_cell p (after_message m.message (l.at p)) l) =
-          node_takes_keeps laws Msi n p m.message g l below kind (laws.order n g _ _ (more_at more) co) in
+      node_takes_keeps laws Msi n p m.message g l below kind (laws.order n g _ _ (more_at more) co) in
       laws.order n g _ _ (changes-there n p r m.line _ _ _ a (takes_message m a) (takes-changes m a))
       (subst (λ c. Coherent n g (with_cell p c l)) (taken-cell m.message (a.copies m.line) (a.registers m.line) (l.at p) (copy-there n r p a m.line) (register-there n r p a m.line)) done)
 
@@ -122,7 +122,7 @@ node_takes_message laws node n p i f s fine below sound at to from =
     let before = fine.right.nodes p below in
     keeps laws n s (taken_at p f.message r) fine.some refl
     (right_with_node p w
-        (right_with_carrier (record (s.carrier) { flights = remove s.carrier.flights i }) fine.right (All-remove (IsRightFlight n (is_kept n s)) s.carrier.flights i fine.right.flights))
-        (λ inside. right-node n (is_kept n s) p w before.at before.wishes
-            (subst (λ (a : Side). IsRightSide n (is_kept n s) a) (sym follows) (right-takes n (is_kept n s) m (side_of v) flight.line (right-side n (is_kept n s) p v before)))))
+    (right_with_carrier (record (s.carrier) { flights = remove s.carrier.flights i }) fine.right (All-remove (IsRightFlight n (is_kept n s)) s.carrier.flights i fine.right.flights))
+    (λ inside. right-node n (is_kept n s) p w before.at before.wishes
+    (subst (λ (a : Side). IsRightSide n (is_kept n s) a) (sym follows) (right-takes n (is_kept n s) m (side_of v) flight.line (right-side n (is_kept n s) p v before)))))
     (λ l kept. taken-keeps laws n p m r s below kind more w follows l (content n s l) (fine.lines l kept))

@@ -131,11 +131,11 @@ posts-between n l x s =
 sent-few : OneFromHome → (n p l : ℕ) (s : System) → IsFine n s → is_kept n s l ≡ true → home_number n l ≡ p → (old sent : List Post) → (s.homes p).outgoing ≡ old ++ sent → All (IsAbout n l) sent → length sent ≤ n
 sent-few one n p l s fine kept home old sent grown about =
     let few : (x : ℕ) → x < n → posts_to l sent x ≤ 1 = λ x below.
-        let all = posts-between n l x s in
-        let single = one n (content n s l) (line_of n s l) x (fine.lines l kept) below in
-        let here : (home_at n s l).outgoing ≡ old ++ sent = ap (λ h. (s.homes h).outgoing) home ∙ grown in
-        let split = ap (λ ps. count_to_node (flat_map (of_post l x) ps)) here ∙ ap count_to_node (flat_map-append (of_post l x) old sent) ∙ count-append (flat_map (of_post l x) old) (flat_map (of_post l x) sent) in
-        omega (arith, all, single, split) in
+    let all = posts-between n l x s in
+    let single = one n (content n s l) (line_of n s l) x (fine.lines l kept) below in
+    let here : (home_at n s l).outgoing ≡ old ++ sent = ap (λ h. (s.homes h).outgoing) home ∙ grown in
+    let split = ap (λ ps. count_to_node (flat_map (of_post l x) ps)) here ∙ ap count_to_node (flat_map-append (of_post l x) old sent) ∙ count-append (flat_map (of_post l x) old) (flat_map (of_post l x) sent) in
+    omega (arith, all, single, split) in
     let sum = posts-counted n l sent about in
     let bound = sum_below-few n (posts_to l sent) few in
     omega (arith, sum, bound)
@@ -144,8 +144,8 @@ grown-few : OneFromHome → (n p l : ℕ) (s : System) → IsFine n s → p < n 
 grown-few one n p l s fine below old [] grown about = omega arith
 grown-few one n p l s fine below old (post ∷ sent) grown about =
     let right : All (IsRightPost n (is_kept n s) p) (post ∷ sent) =
-        All-right (IsRightPost n (is_kept n s) p) old (post ∷ sent)
-        (subst (λ (ps : List Post). All (IsRightPost n (is_kept n s) p) ps) grown (fine.right.homes p below).outgoing) in
+    All-right (IsRightPost n (is_kept n s) p) old (post ∷ sent)
+    (subst (λ (ps : List Post). All (IsRightPost n (is_kept n s) p) ps) grown (fine.right.homes p below).outgoing) in
     let first : IsRightPost n (is_kept n s) p post = right 0 post (omega arith) in
     let line : post.line ≡ l = about 0 post (omega arith) in
     sent-few one n p l s fine (ap (is_kept n s) (sym line) ∙ first.line) (ap (home_number n) (sym line) ∙ first.home) old (post ∷ sent) grown

@@ -26,7 +26,6 @@ use Rattle.coherent_memory.specs.Systems.{System}
 use Rattle.coherent_memory.specs.Turns.{HomeSends, NodeSends, ends, refused, sends, posted, without_post, without_mail, Receives, full, nothing, by_home, by_node, Turn, begun, lost_at_begin, node_takes as takes_at, without_flight}
 use Rattle.coherent_memory.proofs.Lost.{AreOneWay, are_lines, gone-from_node, gone-joined, gone-none, left-length}
 use Rattle.coherent_memory.proofs.NodeLaws.{NodeLaws}
-
 use Rattle.coherent_memory.proofs.Leaving.{LeavesOne, LeavesWith, begin-leaves, message-leaves}
 use Rattle.coherent_memory.proofs.Places.{with_at-other, with_at-same}
 

@@ -76,7 +76,7 @@ module _ (laws : ProtocolLaws) (n p : ℕ) (s : System) (below : p < n) (k : ℕ
       let before : Moment = record { content = g; line = l } in
       let after : Moment = record { content = change g; line = with_stance p (table.after_write (change bytes) (l.at p).stance) l } in
       let done : Coherent n (change g) (with_cell p (cell (table.after_write (change bytes) (l.at p).stance) (l.at p).words) l) =
-          (laws.events Msi n (Writes p change) before after co (below, bytes, copy-there n s p a k ∙ owns, refl)).0 in
+      (laws.events Msi n (Writes p change) before after co (below, bytes, copy-there n s p a k ∙ owns, refl)).0 in
       laws.order n (change g) _ _ (changes-there n p s k [] (Owned (change bytes)) (a.registers k) a (changed k (change bytes) a) (changed-changes k (change bytes) a))
       (subst (λ r. Coherent n (change g) (with_cell p (standing (Owned (change bytes)) r (l.at p)) l)) (register-there n s p a k) done)
 
@@ -118,15 +118,15 @@ writing_keeps laws node n p a size value s fine below sound owns =
     let before = fine.right.nodes p below in
     let contents : ℕ → List ℕ = written_in a size value v (content n s) in
     let lines : (l : ℕ) → is_kept n s l ≡ true → Coherent n (contents l) (line_of n t l) = λ l kept.
-        subst (λ m. Coherent n (contents l) m) (seen-other n s p w l)
-        (subst (λ (b : Side). Coherent n (contents l) (seen n s p b l)) (sym follows)
-        (changed-keeps laws n p s below k change old owned_there l (content n s l) (fine.lines l kept))) in
+    subst (λ m. Coherent n (contents l) m) (seen-other n s p w l)
+    (subst (λ (b : Side). Coherent n (contents l) (seen n s p b l)) (sym follows)
+    (changed-keeps laws n p s below k change old owned_there l (content n s l) (fine.lines l kept))) in
     let written = level.touched_levels k (level.written a size value v.levels) in
     let right : IsRight n (is_kept n s) t = right_with_node p w fine.right (λ inside. right-node n (is_kept n s) p w
-        (cond-at written v (owned k v.levels) ∙ before.at)
-        (subst (λ (ws : List Wish). All (λ (w : Wish). is_kept n s w.line ≡ true) ws) (sym (cond-wishes written v (owned k v.levels))) before.wishes)
-        (subst (λ (b : Side). IsRightSide n (is_kept n s) b) (sym follows)
-        (right-changed n (is_kept n s) k (change old) (side_of v) (ap is_held owned_there) (right-side n (is_kept n s) p v before)))) in
+    (cond-at written v (owned k v.levels) ∙ before.at)
+    (subst (λ (ws : List Wish). All (λ (w : Wish). is_kept n s w.line ≡ true) ws) (sym (cond-wishes written v (owned k v.levels))) before.wishes)
+    (subst (λ (b : Side). IsRightSide n (is_kept n s) b) (sym follows)
+    (right-changed n (is_kept n s) k (change old) (side_of v) (ap is_held owned_there) (right-side n (is_kept n s) p v before)))) in
     record {
       fine = record {
         some = fine.some;
