@@ -1,12 +1,12 @@
 -- A node begins its part of a tick: lines stay coherent where a line leaves, and where one is asked for.
 use Rattle.std.proofs.Common.{◌≡◌, ℕ, ◌<◌, Bool, true, false, cond, List, [], ◌∷◌, ◌++◌, All, Option, None, Some, ⊎_elim, refl, sym, ap, subst, ◌∙◌, true≢false}
 use Rattle.std.specs.Option.{option_map_or}
-use Rattle.std.proofs.lemmas.List.Elements.{All-append, All-cons, All-contains, All-head, All-nil, All-tail}
+use Rattle.std.proofs.lemmas.List.Elements.{All-cons, All-contains, All-head, All-nil, All-tail}
 use Rattle.rsim_base.specs.declared.memory.Line.{Line}
 use Rattle.machine_config.specs.declared.config.Protocol.TheVariants.{Msi}
 use Rattle.memory_contracts.specs.Protocol.Coherent.{Coherent}
-use Rattle.memory_contracts.specs.Protocol.Events.{Event, Evicts, Moment, Starts, becomes, is_to_home}
-use Rattle.memory_contracts.specs.Protocol.Lines.{Absent, Cell, Copy, Emptied, Evicting, LineState, Owned, Shared, all_mailed, cell, mailed, with_cell}
+use Rattle.memory_contracts.specs.Protocol.Events.{Evicts, Moment, Starts, becomes, is_to_home}
+use Rattle.memory_contracts.specs.Protocol.Lines.{Absent, Cell, Copy, Emptied, Evicting, Owned, Shared, all_mailed, cell, mailed, with_cell}
 use Rattle.memory_contracts.specs.Protocol.Messages.{GetM, GetS, Message, Put, get}
 use Rattle.memory_contracts.specs.Protocol.NodeTable.{after_eviction, after_start, evicted, may_start, put_back}
 use Rattle.memory_contracts.specs.Store.{IsLeftOf, Wish}
@@ -15,9 +15,7 @@ use Rattle.cache_levels.specs.Levels.{evicted as evicted_for, with_room}
 use Rattle.cache_levels.specs.declared.levels.Evicted.{Evicted}
 use Rattle.node_memory.specs.Nodes.{NodeView, copy_of, with_mails}
 use Rattle.node_memory.specs.Sides.{Begins, evicts, starts, stays, MayStart, Side, asks_for, evicts_line, side_of}
-use Rattle.node_memory.specs.Sound.{IsSound}
-use Rattle.node_memory.specs.Starting.{arrived, begins, first_begins, has_to_wait, is_absent, meets, met, put_for, slots_with, starts_absent, starts_shared, uncovered}
-use Rattle.coherent_memory.specs.Fine.{IsFine, IsRightNode}
+use Rattle.node_memory.specs.Starting.{Begun, arrived, begins, first_begins, has_to_wait, is_absent, meets, met, put_for, slots_with, starts as starts_wish, starts_absent, starts_shared, uncovered}
 use Rattle.coherent_memory.specs.Laws.{BeginKeeps}
 use Rattle.coherent_memory.specs.Systems.{System, content, is_kept, line_of}
 use Rattle.coherent_memory.specs.Turns.{begun}
@@ -148,18 +146,18 @@ starts-at : (w : Wish) (e : Option Evicted) (v : NodeView) → (starts_absent w 
 starts-at w None v = refl
 starts-at w (Some e) v = put-at e.line (record v { levels = with_room w.line v.levels; misses = slots_with e v.misses }) (put_for e)
 
+either-at : (b : Bool) (x y : Begun) (at : ℕ) → x.after.at ≡ at → y.after.at ≡ at → (cond b x y).after.at ≡ at
+either-at true x y at e f = e
+either-at false x y at e f = f
+
 first-at : (now : ℕ) (ws : List Wish) (v : NodeView) → (first_begins now ws v).after.at ≡ v.at
 first-at now [] v = refl
-first-at now (w ∷ ws) v = by (meets w.own (copy_of v w.line)) (has_to_wait w v) (is_absent (copy_of v w.line))
-  where
-    u : NodeView
-    u = record v { wishes = ws }
-
-    by : (a b c : Bool) → (cond a (met now w (record v { wishes = ws })) (cond b (record { answer = false; after = record v { wishes = w ∷ ws }; lost = [] }) (cond c (starts_absent w (evicted_for w.line v.levels) (record v { wishes = ws })) (starts_shared w (record v { wishes = ws }))))).after.at ≡ v.at
-    by true b c = refl
-    by false true c = refl
-    by false false true = starts-at w (evicted_for w.line v.levels) (record v { wishes = ws })
-    by false false false = refl
+first-at now (w ∷ ws) v =
+    let u : NodeView = record v { wishes = ws } in
+    let waits : Begun = record { answer = false; after = record v { wishes = w ∷ ws }; lost = [] } in
+    either-at (meets w.own (copy_of v w.line)) (met now w u) (cond (has_to_wait w v) waits (starts_wish w u)) v.at refl
+    (either-at (has_to_wait w v) waits (starts_wish w u) v.at refl
+    (either-at (is_absent (copy_of v w.line)) (starts_absent w (evicted_for w.line v.levels) u) (starts_shared w u) v.at (starts-at w (evicted_for w.line v.levels) u) refl))
 
 begins-at : (now : ℕ) (v : NodeView) → (begins now v).after.at ≡ v.at
 begins-at now v = first-at now (uncovered (arrived now v).misses (arrived now v).wishes) (arrived now v)

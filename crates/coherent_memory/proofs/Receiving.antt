@@ -1,20 +1,19 @@
 -- A node takes a message of a home.
-use Rattle.std.proofs.Common.{◌≡◌, ℕ, ◌<◌, ◌==◌, Bool, true, false, cond, List, [], ◌∷◌, ◌++◌, All, slice_get, Some, refl, sym, ap, subst, ◌∙◌, true≢false}
+use Rattle.std.proofs.Common.{◌≡◌, ℕ, ◌<◌, ◌==◌, Bool, true, false, cond, List, [], ◌∷◌, All, refl, sym, ap, subst, ◌∙◌}
 use Rattle.std.specs.List.{remove}
 use Rattle.std.proofs.lemmas.Bool.{eqb-true}
 use Rattle.std.proofs.lemmas.List.Elements.{All-cons, All-nil}
 use Rattle.machine_config.specs.declared.config.Protocol.TheVariants.{Msi}
-use Rattle.memory_contracts.specs.Carrier.{Flight}
 use Rattle.memory_contracts.specs.Protocol.Coherent.{Coherent}
 use Rattle.memory_contracts.specs.Protocol.Events.{is_to_home, is_to_node}
-use Rattle.memory_contracts.specs.Protocol.Lines.{Absent, Cell, Copy, Emptied, Evicting, Owned, Shared, all_mailed, with_cell, with_mail}
+use Rattle.memory_contracts.specs.Protocol.Lines.{Absent, Cell, Copy, Emptied, Evicting, Owned, Shared, all_mailed, with_cell}
 use Rattle.memory_contracts.specs.Protocol.Messages.{Done, Grant, Inv, InvAck, Message, PutAck, Recall, RecallAck}
-use Rattle.memory_contracts.specs.Protocol.NodeTable.{after_message, node_takes}
-use Rattle.memory_contracts.specs.Said.{Letter, letter_of, said}
+use Rattle.memory_contracts.specs.Protocol.NodeTable.{NodeStep, after_message, node_takes}
+use Rattle.memory_contracts.specs.Said.{Letter, letter_of}
 use Rattle.memory_contracts.specs.Updates.{with_at}
 use Rattle.node_memory.specs.Nodes.{NodeView}
 use Rattle.node_memory.specs.Rows as rows
-use Rattle.node_memory.specs.Sides.{Side, side_of, takes_message}
+use Rattle.node_memory.specs.Sides.{Side, side_of, takes_message, takes_step}
 use Rattle.coherent_memory.specs.Fine.{GoesRight, IsRightFlight}
 use Rattle.coherent_memory.specs.Laws.{NodeTakesKeeps}
 use Rattle.coherent_memory.specs.Systems.{System, content, is_kept, line_of, party}
@@ -27,28 +26,25 @@ use Rattle.coherent_memory.proofs.NodeLaws.{NodeLaws}
 use Rattle.coherent_memory.proofs.NodeRights.{IsRightSide, right-copies, right-node, right-sends, right-side}
 use Rattle.coherent_memory.proofs.Places.{All-at_place, All-remove, eqb-sym, with_at-other, with_at-same}
 use Rattle.coherent_memory.proofs.Rights.{right_with_carrier, right_with_node}
-use Rattle.coherent_memory.proofs.Sides.{ChangesAt, changes-away, changes-there, copy-there, register-there, seen, seen-other, seen-own, side_cell, standing}
+use Rattle.coherent_memory.proofs.Sides.{ChangesAt, changes-away, changes-there, copy-there, register-there, seen, seen-other, seen-own, standing}
 
 -- ---- the side of a node that takes a message
 
-takes-changes : (m : Letter) (a : Side)
-    → ChangesAt m.line (node_takes m.message (a.copies m.line) (a.registers m.line)).sent (node_takes m.message (a.copies m.line) (a.registers m.line)).copy
-    (node_takes m.message (a.copies m.line) (a.registers m.line)).register a (takes_message m a)
-takes-changes m a = record {
-  there_copy = with_at-same a.copies m.line (node_takes m.message (a.copies m.line) (a.registers m.line)).copy;
-  there_register = with_at-same a.registers m.line (node_takes m.message (a.copies m.line) (a.registers m.line)).register;
-  copies = λ l other. with_at-other a.copies m.line (node_takes m.message (a.copies m.line) (a.registers m.line)).copy l other;
-  registers = λ l other. with_at-other a.registers m.line (node_takes m.message (a.copies m.line) (a.registers m.line)).register l other;
+step-changes : (line : ℕ) (step : NodeStep) (a : Side) → ChangesAt line step.sent step.copy step.register a (takes_step line step a)
+step-changes line step a = record {
+  there_copy = with_at-same a.copies line step.copy;
+  there_register = with_at-same a.registers line step.register;
+  copies = λ l other. with_at-other a.copies line step.copy l other;
+  registers = λ l other. with_at-other a.registers line step.register l other;
   outbox = refl;
 }
 
--- what the table does at this copy and register
-abbrev taken_by : Message → Copy → Bool → Cell → Cell
-taken_by m copy register c =
-    all_mailed (node_takes m copy register).sent (standing (node_takes m copy register).copy (node_takes m copy register).register c)
+-- what the table says that a cell becomes
+abbrev does : NodeStep → Cell → Cell
+does step c = all_mailed step.sent (standing step.copy step.register c)
 
-taken-cell : (m : Message) (copy : Copy) (register : Bool) (c : Cell) → c.stance.copy ≡ copy → c.stance.register ≡ register → after_message m c ≡ taken_by m copy register c
-taken-cell m copy register c e f = ap (λ k. taken_by m k c.stance.register c) e ∙ ap (λ r. taken_by m copy r c) f
+does-same : (m : Message) (copy : Copy) (register : Bool) (c : Cell) → c.stance.copy ≡ copy → c.stance.register ≡ register → after_message m c ≡ does (node_takes m copy register) c
+does-same m copy register c e f = ap (λ k. does (node_takes m k c.stance.register) c) e ∙ ap (λ r. does (node_takes m copy r) c) f
 
 -- ---- its answers go to the home
 
@@ -86,13 +82,13 @@ module _ (laws : ProtocolLaws) (n p : ℕ) (m : Letter) (r s : System) (below : 
       let l = line_of n r m.line in
       let done : Coherent n g (with_cell p (after_message m.message (l.at p)) l) =
       node_takes_keeps laws Msi n p m.message g l below kind (laws.order n g _ _ (more_at more) co) in
-      laws.order n g _ _ (changes-there n p r m.line _ _ _ a (takes_message m a) (takes-changes m a))
-      (subst (λ c. Coherent n g (with_cell p c l)) (taken-cell m.message (a.copies m.line) (a.registers m.line) (l.at p) (copy-there n r p a m.line) (register-there n r p a m.line)) done)
+      laws.order n g _ _ (changes-there n p r m.line _ _ _ a (takes_message m a) (step-changes m.line (node_takes m.message (a.copies m.line) (a.registers m.line)) a))
+      (subst (λ c. Coherent n g (with_cell p c l)) (does-same m.message (a.copies m.line) (a.registers m.line) (l.at p) (copy-there n r p a m.line) (register-there n r p a m.line)) done)
 
   taken-away : (l : ℕ) (g : List ℕ) → (l == m.line) ≡ false → Coherent n g (line_of n s l) → Coherent n g (seen n r p (takes_message m (side_of (r.nodes p))) l)
   taken-away l g other co =
       let a = side_of (r.nodes p) in
-      laws.order n g _ _ (changes-away n p r m.line _ _ _ a (takes_message m a) (takes-changes m a) l other)
+      laws.order n g _ _ (changes-away n p r m.line _ _ _ a (takes_message m a) (step-changes m.line (node_takes m.message (a.copies m.line) (a.registers m.line)) a) l other)
       (subst (λ k. Coherent n g k) (sym (seen-own n r p l)) (laws.order n g _ _ (more_away more l (eqb-sym l m.line false other)) co))
 
   taken-keeps : (l : ℕ) (g : List ℕ) → Coherent n g (line_of n s l) → Coherent n g (line_of n (with_node p v r) l)

@@ -1,5 +1,5 @@
 -- A home has room for what it sends: it has at most one message to send to each node about a line.
-use Rattle.std.proofs.Common.{◌≡◌, ◌⊎◌, inl, inr, ℕ, zero, suc, ◌+◌, ◌*◌, ◌<◌, ◌≤◌, ◌==◌, Bool, true, false, cond, ◌&&◌, not, List, [], ◌∷◌, ◌++◌, length, map, All, slice_get, get_or, Option, Some, None, refl, sym, ap, subst, ◌∙◌, true≢false, arith, append_assoc, length-append}
+use Rattle.std.proofs.Common.{◌≡◌, ℕ, zero, suc, ◌+◌, ◌<◌, ◌≤◌, ◌==◌, Bool, true, false, cond, ◌&&◌, not, List, [], ◌∷◌, ◌++◌, length, map, All, slice_get, get_or, Option, Some, None, refl, sym, ap, subst, ◌∙◌, true≢false, arith, append_assoc, length-append}
 use Rattle.std.specs.List.{flat_map, remove}
 use Rattle.std.proofs.lemmas.Bool.{eqb-true, eq-eqb}
 use Rattle.std.proofs.lemmas.List.{append-nil}
@@ -10,16 +10,16 @@ use Rattle.std.proofs.lemmas.Grind.{flat_map-append}
 use Rattle.std.proofs.lemmas.Option.{get_or_from_slice_get}
 use Rattle.machine_config.specs.declared.config.Protocol.{Protocol}
 use Rattle.memory_contracts.specs.Protocol.Content.{count_to_node, from_home}
-use Rattle.memory_contracts.specs.Protocol.HomeTable.{HomeStep, home_row, home_takes, is_mesi, is_owner, grants_owned, grants_shared, collects, to_one}
+use Rattle.memory_contracts.specs.Protocol.HomeTable.{HomeStep, home_row, home_takes, is_mesi, grants_owned, grants_shared, collects, to_one}
 use Rattle.memory_contracts.specs.Protocol.Laws.{OneFromHome}
 use Rattle.memory_contracts.specs.Protocol.Lines.{HomeRecord, Phase, Idle, Collecting, Recalling, Granting, besides, is_some_node, joined, nobody}
 use Rattle.memory_contracts.specs.Protocol.Messages.{Message, GetS, GetM, Put, Inv, Recall, Grant, PutAck, InvAck, RecallAck, Done}
 use Rattle.memory_contracts.specs.Said.{Letter}
-use Rattle.directory.specs.Homes.{HomeView, Post, Serves, ServesOne, first_for, home_after, is_idle, post_to, posts}
+use Rattle.directory.specs.Homes.{HomeView, Post, first_for, home_after, is_idle, post_to, posts}
 use Rattle.coherent_memory.specs.Fine.{IsFine, IsRightPost}
 use Rattle.coherent_memory.specs.Rooms.{Grows, RoomStays, ServingGrows, ServingShortens, StartGrows, TakingGrows}
 use Rattle.coherent_memory.specs.Systems.{System, alone, content, home_at, home_number, is_kept, line_of, of_flight, of_letter, of_mail, of_post}
-use Rattle.coherent_memory.proofs.Counting.{IsAbout, count-append, from_home-all_mailed, posts-counted, posts_to, sum_below, sum_below-few}
+use Rattle.coherent_memory.proofs.Counting.{IsAbout, count-append, from_home-all_mailed, posts-counted, posts_to, sum_below-few}
 
 -- ---- what is to be sent grows
 

@@ -1,15 +1,15 @@
 -- A line as it is where one node has another side, and what a side that changes at one line does to it.
-use Rattle.std.proofs.Common.{◌≡◌, ℕ, ◌<◌, ◌%◌, ◌==◌, Bool, true, false, cond, List, [], ◌∷◌, ◌++◌, map, refl, sym, ap, subst, ◌∙◌}
+use Rattle.std.proofs.Common.{◌≡◌, ℕ, ◌%◌, ◌==◌, Bool, true, false, cond, List, [], ◌∷◌, ◌++◌, map, refl, sym, ap, subst, ◌∙◌}
 use Rattle.std.specs.List.{flat_map}
 use Rattle.std.proofs.lemmas.Bool.{eqb-true, eq-eqb}
 use Rattle.memory_contracts.specs.Protocol.Alike.{AreAlike, IsAlike}
 use Rattle.memory_contracts.specs.Protocol.Coherent.{Coherent}
 use Rattle.memory_contracts.specs.Protocol.Lines.{Cell, Copy, LineState, Stance, all_mailed, cell, mailed, with_cell, with_stance}
-use Rattle.memory_contracts.specs.Protocol.Messages.{Message, GetS, GetM, Put, Inv, Recall, Grant, PutAck, InvAck, RecallAck, Done}
+use Rattle.memory_contracts.specs.Protocol.Messages.{Message, GetS, GetM, Put, PutAck}
 use Rattle.memory_contracts.specs.Said.{Mail}
 use Rattle.node_memory.specs.Nodes.{NodeView}
 use Rattle.node_memory.specs.Sides.{Side, side_of}
-use Rattle.coherent_memory.specs.Systems.{System, alone, content, home_at, line_of, of_mail}
+use Rattle.coherent_memory.specs.Systems.{System, alone, home_at, line_of, of_mail}
 use Rattle.coherent_memory.specs.Turns.{with_node}
 use Rattle.coherent_memory.proofs.Adding.{between_in, more_to_ask, to_be_sent, under_way, waiting_for}
 use Rattle.coherent_memory.proofs.Alike.{AreReordered, AreReordered-same, AreReordered-sym, AreReordered-trans, IsAlike-refl, all_mailed-append, all_mailed-copy, all_mailed-register}

@@ -3,12 +3,11 @@ use Rattle.std.proofs.Common.{◌≡◌, ℕ, ◌<◌, ◌%◌, ◌==◌, Bool, 
 use Rattle.std.specs.Option.{option_map_or}
 use Rattle.std.proofs.lemmas.Bool.{eqb-true}
 use Rattle.std.proofs.lemmas.List.{append-nil}
-use Rattle.rsim_base.specs.declared.memory.Size.{Size}
 use Rattle.machine_config.specs.declared.config.Protocol.TheVariants.{Msi}
 use Rattle.memory_contracts.specs.Protocol.Coherent.{Coherent}
 use Rattle.memory_contracts.specs.Protocol.Content.{bytes_of}
 use Rattle.memory_contracts.specs.Protocol.Events.{Moment, Writes}
-use Rattle.memory_contracts.specs.Protocol.Lines.{Copy, Owned, cell, with_cell, with_stance}
+use Rattle.memory_contracts.specs.Protocol.Lines.{Owned, cell, with_cell, with_stance}
 use Rattle.memory_contracts.specs.Protocol.NodeTable as table
 use Rattle.memory_contracts.specs.Protocol.NodeTable.{granted, is_held}
 use Rattle.memory_contracts.specs.Store.{Wish}
@@ -18,12 +17,10 @@ use Rattle.cache_levels.specs.Levels as level
 use Rattle.cache_levels.specs.Levels.{LevelsView, owned}
 use Rattle.cache_levels.specs.declared.levels.LineCopy.{LineCopy}
 use Rattle.miss_registers.specs.Misses.{victim_of}
-use Rattle.node_memory.specs.Laws.{with_written}
 use Rattle.node_memory.specs.Nodes.{NodeView, after_write, copy_of, kept_as, line_at}
 use Rattle.node_memory.specs.Sides.{Side, side_of}
-use Rattle.node_memory.specs.Sound.{IsSound}
-use Rattle.coherent_memory.specs.Fine.{IsFine, IsRight}
-use Rattle.coherent_memory.specs.Laws.{HasWritten, WritingKeeps, written_in}
+use Rattle.coherent_memory.specs.Fine.{IsRight}
+use Rattle.coherent_memory.specs.Laws.{WritingKeeps, written_in}
 use Rattle.coherent_memory.specs.Systems.{System, content, is_kept, line_of}
 use Rattle.coherent_memory.specs.Turns.{with_node}
 use Rattle.coherent_memory.proofs.Keeping.{ProtocolLaws}
