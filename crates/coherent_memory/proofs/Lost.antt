@@ -124,8 +124,14 @@ module _ (p : ℕ) (s t u : System) (before : (q : ℕ) → p ≤ q → t.nodes 
 
   changes-once : AreOneWay s t u
   changes-once = record {
-    comes = λ q l no yes. ⊎_elim (λ same. absurd (true≢false (sym yes ∙ ap (λ v. is_held (copy_of v l)) same ∙ no))) (λ same. ap (λ v. is_held (copy_of v l)) same ∙ yes) (stays-once q);
-    leaves = λ q l yes no. ⊎_elim (λ same. absurd (true≢false (sym yes ∙ sym (ap (λ v. is_held (copy_of v l)) same) ∙ no))) (λ same. ap (λ v. is_held (copy_of v l)) same ∙ no) (stays-once q);
+    comes = λ q l gone there. ⊎_elim
+        (λ same. absurd (true≢false (sym there ∙ ap (λ v. is_held (copy_of v l)) same ∙ gone)))
+        (λ same. ap (λ v. is_held (copy_of v l)) same ∙ there)
+        (stays-once q);
+    leaves = λ q l there gone. ⊎_elim
+        (λ same. absurd (true≢false (sym there ∙ sym (ap (λ v. is_held (copy_of v l)) same) ∙ gone)))
+        (λ same. ap (λ v. is_held (copy_of v l)) same ∙ gone)
+        (stays-once q);
   }
 
 pub turns-tell : TurnsTell

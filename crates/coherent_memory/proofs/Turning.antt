@@ -8,7 +8,7 @@ use Rattle.memory_contracts.specs.Protocol.NodeTable.{is_held}
 use Rattle.memory_contracts.specs.Said.{Letter, letter_of}
 use Rattle.node_memory.specs.Nodes.{NodeView, awaits, copy_of, left_from, without_first_mail}
 use Rattle.node_memory.specs.Rows.{after_message, is_grant, lost_at}
-use Rattle.node_memory.specs.Sides.{stays, Side, side_of}
+use Rattle.node_memory.specs.Sides.{Side, side_of}
 use Rattle.node_memory.specs.Sound.{IsSound}
 use Rattle.node_memory.specs.Starting.{begins}
 use Rattle.coherent_memory.specs.Fine.{IsFine}
