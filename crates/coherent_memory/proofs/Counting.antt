@@ -115,8 +115,8 @@ posts-counted n l (post ∷ sent) about =
     let first : IsAbout n l post = about 0 post (omega arith) in
     let rest = posts-counted n l sent (All-tail (IsAbout n l) post sent about) in
     let split : sum_below n (posts_to l (post ∷ sent)) ≡ sum_below n (λ x. at_node post.to x + posts_to l sent x) =
-        sum_below-same n (posts_to l (post ∷ sent)) (λ x. at_node post.to x + posts_to l sent x)
-        (λ x below. count-append (of_post l x post) (flat_map (of_post l x) sent) ∙ ap (λ k. k + posts_to l sent x) (post-counts n l post first x)) in
+    sum_below-same n (posts_to l (post ∷ sent)) (λ x. at_node post.to x + posts_to l sent x)
+    (λ x below. count-append (of_post l x post) (flat_map (of_post l x) sent) ∙ ap (λ k. k + posts_to l sent x) (post-counts n l post first x)) in
     let both = sum_below-add n (at_node post.to) (posts_to l sent) in
     let one = one-below n post.to first.to in
     omega (arith, rest, split, both, one)

@@ -1,31 +1,18 @@
 -- The lines that leave a node in its turn: at its begin, and with a message.
-use Rattle.std.proofs.Common.{◌≡◌, ◌≢◌, ℕ, suc, ◌+◌, ◌<◌, ◌≤◌, ◌==◌, Bool, true, false, cond, ◌&&◌, ◌||◌, not, List, [], ◌∷◌, ◌++◌, length, slice_get, Some, refl, sym, ap, subst, ◌∙◌, true≢false, arith, length-append}
-use Rattle.std.specs.List.{list_any}
-use Rattle.std.proofs.lemmas.Bool.{eqb-true, eq-eqb}
+use Rattle.std.proofs.Common.{◌≡◌, ℕ, ◌≤◌, ◌==◌, Bool, true, false, cond, ◌&&◌, not, List, [], ◌∷◌, length, refl, sym, ap, subst, ◌∙◌, true≢false, arith}
+use Rattle.std.proofs.Math.Bool.{and-true, or-false}
+use Rattle.std.proofs.lemmas.Bool.{and_from, and_right, eqb-true}
 use Rattle.std.proofs.lemmas.Bool.Decides.{nat_tests}
-use Rattle.std.proofs.lemmas.List.{length-map}
-use Rattle.rsim_base.specs.declared.memory.Line.{Line}
-use Rattle.rsim_base.specs.declared.memory.Node.{Node}
-use Rattle.memory_contracts.specs.Carrier.{Flight}
-use Rattle.memory_contracts.specs.Protocol.Events.{is_to_home}
 use Rattle.memory_contracts.specs.Protocol.Lines.{Copy, Absent, Shared, Owned, Evicting, Emptied}
-use Rattle.memory_contracts.specs.Protocol.Messages.{Message, Inv, Recall, Grant, PutAck, GetS, GetM, Put, InvAck, RecallAck, Done}
-use Rattle.memory_contracts.specs.Protocol.NodeTable.{evicted, granted, is_held, node_takes}
-use Rattle.memory_contracts.specs.Said.{Letter, letter_of, said}
+use Rattle.memory_contracts.specs.Protocol.Messages.{Message, Inv, Recall, Grant, PutAck}
+use Rattle.memory_contracts.specs.Protocol.NodeTable.{NodeStep, evicted, is_held, node_takes}
+use Rattle.memory_contracts.specs.Said.{Letter}
 use Rattle.memory_contracts.specs.Store.{Wish}
 use Rattle.memory_contracts.specs.Updates.{with_at}
-use Rattle.node_memory.specs.Nodes.{NodeView, awaits, copy_of, left_from, without_first_mail}
-use Rattle.node_memory.specs.Rows.{after_message, is_grant, lost_at, step_at}
-use Rattle.node_memory.specs.Sides.{Begins, evicts, starts, stays, Side, asks_for, evicts_line, side_of, takes_message}
-use Rattle.node_memory.specs.Sound.{IsSound}
-use Rattle.node_memory.specs.Starting.{begins}
-use Rattle.coherent_memory.specs.Fine.{IsFine}
-use Rattle.coherent_memory.specs.Laws.{BeginKeeps, GrantsAwaited}
-use Rattle.coherent_memory.specs.Lost.{AreGone, AreGoneFrom, TurnTells, holds}
-use Rattle.coherent_memory.specs.Systems.{System}
-use Rattle.coherent_memory.specs.Turns.{HomeSends, NodeSends, ends, refused, sends, posted, without_post, without_mail, Receives, full, nothing, by_home, by_node, Turn, begun, lost_at_begin, node_takes as takes_at, without_flight}
-use Rattle.coherent_memory.proofs.Lost.{AreOneWay, are_lines, gone-from_node, gone-joined, gone-none}
-use Rattle.coherent_memory.proofs.NodeLaws.{NodeLaws}
+use Rattle.node_memory.specs.Rows.{is_grant}
+use Rattle.node_memory.specs.Sides.{Begins, evicts, starts, stays, Side, asks_for, evicts_line, takes_message, takes_step}
+use Rattle.coherent_memory.proofs.Lost.{and-not, are_lines}
+use Rattle.coherent_memory.proofs.Places.{with_at-other}
 
 -- ---- a node begins
 
@@ -36,18 +23,6 @@ pub record LeavesOne (old new : Side) (lost : List ℕ) : Type 0 where
   pub comes : (l : ℕ) → is_held (old.copies l) ≡ false → is_held (new.copies l) ≡ false
   pub awaited : (l : ℕ) → is_held (old.copies l) ≡ true → is_held (new.copies l) ≡ false → new.registers l ≡ false
 
-and-not : (b : Bool) → (b && not b) ≡ false
-and-not true = refl
-and-not false = refl
-
-and-true : (b : Bool) → (b && true) ≡ b
-and-true true = refl
-and-true false = refl
-
-and-false : (b : Bool) → (b && false) ≡ false
-and-false true = refl
-and-false false = refl
-
 leaves-none : (old new : Side) → new.copies ≡ old.copies → LeavesOne old new []
 leaves-none old new same = record {
   few = omega arith;
@@ -56,7 +31,7 @@ leaves-none old new same = record {
   awaited = λ l there gone. absurd (true≢false (sym there ∙ sym (ap (λ (c : ℕ → Copy). is_held (c l)) same) ∙ gone));
 }
 
-evicted-not_held : (c : Copy) → is_held (evicted c) ≡ false
+pub evicted-not_held : (c : Copy) → is_held (evicted c) ≡ false
 evicted-not_held Absent = refl
 evicted-not_held (Shared bytes) = refl
 evicted-not_held (Owned bytes) = refl
@@ -67,26 +42,30 @@ flip : (x y : ℕ) → (x == y) ≡ (y == x)
 flip x y = grind (arith, nat_tests)
 
 -- the line leaves
-leaves-victim : (old : Side) (line victim : ℕ) (own : Bool) → (victim == line) ≡ false → is_held (old.copies victim) ≡ true → old.registers victim ≡ false → LeavesOne old (asks_for line own (evicts_line victim old)) (victim ∷ [])
-leaves-victim old line victim own other held shut = record {
-  few = omega arith;
-  exactly = λ l. ap (λ b. b || false) (flip victim l) ∙ exactly l (l == victim) refl;
-  comes = λ l gone. comes l (l == victim) gone;
-  awaited = λ l there gone. awaited l (l == victim) refl there gone;
-}
-  where
-    exactly : (l : ℕ) (b : Bool) → (l == victim) ≡ b → (b || false) ≡ (is_held (old.copies l) && not (is_held (cond b (evicted (old.copies victim)) (old.copies l))))
-    exactly l true e =
-        sym (ap (λ b. is_held (old.copies l) && not b) (evicted-not_held (old.copies victim)) ∙ ap (λ (x : ℕ). is_held (old.copies x) && true) (eqb-true l victim e) ∙ ap (λ b. b && true) held)
-    exactly l false e = sym (and-not (is_held (old.copies l)))
+module _ (old : Side) (line victim : ℕ) (own : Bool) (other : (victim == line) ≡ false) (held : is_held (old.copies victim) ≡ true) (shut : old.registers victim ≡ false) where
+  victim-leaves : (l : ℕ) (b : Bool) → (l == victim) ≡ b → b ≡ (is_held (old.copies l) && not (is_held (cond b (evicted (old.copies victim)) (old.copies l))))
+  victim-leaves l true e =
+      sym (and_from (is_held (old.copies l)) (not (is_held (evicted (old.copies victim))))
+      (ap (λ (x : ℕ). is_held (old.copies x)) (eqb-true l victim e) ∙ held) (ap not (evicted-not_held (old.copies victim))))
+  victim-leaves l false e = sym (and-not (is_held (old.copies l)))
 
-    comes : (l : ℕ) (b : Bool) → is_held (old.copies l) ≡ false → is_held (cond b (evicted (old.copies victim)) (old.copies l)) ≡ false
-    comes l true gone = evicted-not_held (old.copies victim)
-    comes l false gone = gone
+  none-comes : (l : ℕ) (b : Bool) → is_held (old.copies l) ≡ false → is_held (cond b (evicted (old.copies victim)) (old.copies l)) ≡ false
+  none-comes l true gone = evicted-not_held (old.copies victim)
+  none-comes l false gone = gone
 
-    awaited : (l : ℕ) (b : Bool) → (l == victim) ≡ b → is_held (old.copies l) ≡ true → is_held (cond b (evicted (old.copies victim)) (old.copies l)) ≡ false → cond (l == line) true (old.registers l) ≡ false
-    awaited l true e there gone = ap (λ b. cond b true (old.registers l)) (ap (λ (x : ℕ). x == line) (eqb-true l victim e) ∙ other) ∙ ap old.registers (eqb-true l victim e) ∙ shut
-    awaited l false e there gone = absurd (true≢false (sym there ∙ gone))
+  victim-unawaited : (l : ℕ) (b : Bool) → (l == victim) ≡ b → is_held (old.copies l) ≡ true → is_held (cond b (evicted (old.copies victim)) (old.copies l)) ≡ false → with_at old.registers line true l ≡ false
+  victim-unawaited l true e there gone =
+      let same = eqb-true l victim e in
+      with_at-other old.registers line true l (ap (λ (x : ℕ). x == line) same ∙ other) ∙ ap old.registers same ∙ shut
+  victim-unawaited l false e there gone = absurd (true≢false (sym there ∙ gone))
+
+  leaves-victim : LeavesOne old (asks_for line own (evicts_line victim old)) (victim ∷ [])
+  leaves-victim = record {
+    few = omega arith;
+    exactly = λ l. or-false (victim == l) ∙ flip victim l ∙ victim-leaves l (l == victim) refl;
+    comes = λ l gone. none-comes l (l == victim) gone;
+    awaited = λ l there gone. victim-unawaited l (l == victim) refl there gone;
+  }
 
 pub begin-leaves : (wishes : List Wish) (old new : Side) (lost : List ℕ) → Begins wishes old new lost → LeavesOne old new lost
 begin-leaves wishes old new _ (stays same) = leaves-none old new (ap (λ (s : Side). s.copies) same)
@@ -130,32 +109,30 @@ few-if : (lost : Bool) (line : ℕ) → length (cond lost (line ∷ []) []) ≤ 
 few-if true line = omega arith
 few-if false line = omega arith
 
-or-false : (b : Bool) → (b || false) ≡ b
-or-false true = refl
-or-false false = refl
-
 lines-if : (lost : Bool) (line l : ℕ) → are_lines (cond lost (line ∷ []) []) l ≡ (lost && (l == line))
 lines-if true line l = or-false (line == l) ∙ flip line l
 lines-if false line l = refl
 
-pub message-leaves : (m : Letter) (old : Side) → LeavesWith m old (takes_message m old) (cond (node_takes m.message (old.copies m.line) (old.registers m.line)).lost (m.line ∷ []) [])
-message-leaves m old = record {
-  few = few-if (node_takes m.message (old.copies m.line) (old.registers m.line)).lost m.line;
-  exactly = λ l. lines-if (node_takes m.message (old.copies m.line) (old.registers m.line)).lost m.line l ∙ exactly l (l == m.line) refl;
-  comes = λ l gone there. comes l (l == m.line) refl gone there;
-}
-  where
-    exactly : (l : ℕ) (b : Bool) → (l == m.line) ≡ b →
-        ((node_takes m.message (old.copies m.line) (old.registers m.line)).lost && b)
-        ≡ (is_held (old.copies l) && not (is_held (cond b (node_takes m.message (old.copies m.line) (old.registers m.line)).copy (old.copies l))))
-    exactly l true e =
-        and-true (node_takes m.message (old.copies m.line) (old.registers m.line)).lost
-        ∙ row-lost m.message (old.copies m.line) (old.registers m.line)
-        ∙ ap (λ (x : ℕ). is_held (old.copies x) && not (is_held (node_takes m.message (old.copies m.line) (old.registers m.line)).copy)) (sym (eqb-true l m.line e))
-    exactly l false e = and-false (node_takes m.message (old.copies m.line) (old.registers m.line)).lost ∙ sym (and-not (is_held (old.copies l)))
+module _ (m : Letter) (old : Side) (step : NodeStep)
+    (loses : step.lost ≡ (is_held (old.copies m.line) && not (is_held step.copy)))
+    (grants : is_held (old.copies m.line) ≡ false → is_held step.copy ≡ true → is_grant m.message ≡ true) where
+  step-loses : (l : ℕ) (b : Bool) → (l == m.line) ≡ b → (step.lost && b) ≡ (is_held (old.copies l) && not (is_held (cond b step.copy (old.copies l))))
+  step-loses l true e = and-true step.lost ∙ loses ∙ ap (λ (x : ℕ). is_held (old.copies x) && not (is_held step.copy)) (sym (eqb-true l m.line e))
+  step-loses l false e = and_right step.lost false refl ∙ sym (and-not (is_held (old.copies l)))
 
-    comes : (l : ℕ) (b : Bool) → (l == m.line) ≡ b → is_held (old.copies l) ≡ false → is_held (cond b (node_takes m.message (old.copies m.line) (old.registers m.line)).copy (old.copies l)) ≡ true → (l ≡ m.line) × (is_grant m.message ≡ true)
-    comes l true e gone there =
-        let same = eqb-true l m.line e in
-        (same, row-comes m.message (old.copies m.line) (old.registers m.line) (ap (λ (x : ℕ). is_held (old.copies x)) (sym same) ∙ gone) there)
-    comes l false e gone there = absurd (true≢false (sym there ∙ gone))
+  step-comes : (l : ℕ) (b : Bool) → (l == m.line) ≡ b → is_held (old.copies l) ≡ false → is_held (cond b step.copy (old.copies l)) ≡ true → (l ≡ m.line) × (is_grant m.message ≡ true)
+  step-comes l true e gone there = let same = eqb-true l m.line e in (same, grants (ap (λ (x : ℕ). is_held (old.copies x)) (sym same) ∙ gone) there)
+  step-comes l false e gone there = absurd (true≢false (sym there ∙ gone))
+
+  step-leaves : LeavesWith m old (takes_step m.line step old) (cond step.lost (m.line ∷ []) [])
+  step-leaves = record {
+    few = few-if step.lost m.line;
+    exactly = λ l. lines-if step.lost m.line l ∙ step-loses l (l == m.line) refl;
+    comes = λ l gone there. step-comes l (l == m.line) refl gone there;
+  }
+
+pub message-leaves : (m : Letter) (old : Side) → LeavesWith m old (takes_message m old) (cond (node_takes m.message (old.copies m.line) (old.registers m.line)).lost (m.line ∷ []) [])
+message-leaves m old =
+    let c = old.copies m.line in
+    let register = old.registers m.line in
+    step-leaves m old (node_takes m.message c register) (row-lost m.message c register) (row-comes m.message c register)

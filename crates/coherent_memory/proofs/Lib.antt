@@ -2,28 +2,31 @@ pub mod Adding
 mod Addresses
 pub mod Alike
 pub mod Awaiting
+pub mod Beginning
 pub mod Counting
 pub mod HomeSteps
 pub mod Keeping
 pub mod Leaving
 pub mod Lines
 pub mod Lost
+mod Meanings
 pub mod Moving
 pub mod NodeLaws
-pub mod NodeSteps
-mod Meanings
+pub mod NodeRights
 mod PartRows
 pub mod Places
 pub mod Quiet
+pub mod Receiving
 pub mod Rights
 pub mod Rooms
 pub mod Rows
 pub mod Sides
 mod Sizes
 mod Soundness
-pub mod Staying
 mod Starting
+pub mod Staying
 mod Stored
-pub mod Turning
 mod Ticking
+pub mod Turning
 mod Values
+pub mod Writing

@@ -1,59 +1,38 @@
 -- Lines that leave nodes, one step after the other.
-use Rattle.std.proofs.Common.{◌≡◌, ◌≢◌, ◌⊎◌, inl, inr, ⊎_elim, ℕ, suc, ◌+◌, ◌*◌, ◌<◌, ◌≤◌, ◌==◌, Bool, true, false, cond, ◌&&◌, ◌||◌, not, List, [], ◌∷◌, ◌++◌, length, refl, sym, ap, subst, ◌∙◌, true≢false, arith, length-append}
+use Rattle.std.proofs.Common.{◌≡◌, ◌≢◌, ◌⊎◌, inl, inr, ⊎_elim, ℕ, ◌≤◌, ◌==◌, Bool, true, false, ◌&&◌, ◌||◌, not, List, [], ◌∷◌, ◌++◌, length, refl, sym, ap, ◌∙◌, true≢false, arith, length-append}
 use Rattle.std.specs.List.{list_any}
-use Rattle.std.proofs.lemmas.Bool.{eqb-true, eq-eqb}
-use Rattle.std.proofs.lemmas.Bool.Decides.{nat_tests}
+use Rattle.std.proofs.lemmas.Bool.{and_from, and_parts, eqb-true, eq-eqb, not-true, or_from, or_left, or_right}
 use Rattle.std.proofs.lemmas.List.{length-map}
 use Rattle.std.proofs.lemmas.List.Folds.{list_any-append}
 use Rattle.rsim_base.specs.declared.memory.Line.{Line}
 use Rattle.rsim_base.specs.declared.memory.Node.{Node}
 use Rattle.memory_contracts.specs.Protocol.NodeTable.{is_held}
 use Rattle.memory_contracts.specs.Store.{are_once, is_among}
-use Rattle.node_memory.specs.Nodes.{NodeView, copy_of, left_from}
-use Rattle.coherent_memory.specs.Lost.{AreGone, AreGoneBelow, AreGoneFrom, TurnsTell, holds}
+use Rattle.node_memory.specs.Nodes.{copy_of, left_from}
+use Rattle.coherent_memory.specs.Lost.{AreGone, TurnsTell, holds}
 use Rattle.coherent_memory.specs.Systems.{System}
+use Rattle.coherent_memory.proofs.Places.{eqb-refl}
 
 -- ---- lists of lines that left
 
 among-append : (xs ys : List (Node × Line)) (p l : ℕ) → is_among (xs ++ ys) p l ≡ (is_among xs p l || is_among ys p l)
 among-append xs ys p l = list_any-append (λ (x : Node × Line). (x.0.0 == p) && (x.1.0 == l)) xs ys
 
-and-left : (a b : Bool) → (a && b) ≡ true → a ≡ true
-and-left true b e = refl
-and-left false b e = e
-
-and-right : (a b : Bool) → (a && b) ≡ true → b ≡ true
-and-right true b e = e
-and-right false b e = absurd (true≢false (sym e))
-
-not-true : (a : Bool) → not a ≡ true → a ≡ false
-not-true true e = sym e
-not-true false e = refl
-
 here : (x : Node × Line) (xs : List (Node × Line)) → is_among (x ∷ xs) x.0.0 x.1.0 ≡ true
-here x xs = by (x.0.0 == x.0.0) (x.1.0 == x.1.0) (eq-eqb x.0.0 x.0.0 refl) (eq-eqb x.1.0 x.1.0 refl)
-  where
-    by : (a b : Bool) → a ≡ true → b ≡ true → ((a && b) || is_among xs x.0.0 x.1.0) ≡ true
-    by true true e f = refl
-    by true false e f = absurd (true≢false (sym f))
-    by false b e f = absurd (true≢false (sym e))
+here x xs = or_left ((x.0.0 == x.0.0) && (x.1.0 == x.1.0)) (is_among xs x.0.0 x.1.0) (and_from (x.0.0 == x.0.0) (x.1.0 == x.1.0) (eqb-refl x.0.0) (eqb-refl x.1.0))
 
 later : (x : Node × Line) (xs : List (Node × Line)) (p l : ℕ) → is_among xs p l ≡ true → is_among (x ∷ xs) p l ≡ true
-later x xs p l e = by ((x.0.0 == p) && (x.1.0 == l))
-  where
-    by : (b : Bool) → (b || is_among xs p l) ≡ true
-    by true = refl
-    by false = e
+later x xs p l e = or_right ((x.0.0 == p) && (x.1.0 == l)) (is_among xs p l) e
 
 once-append : (xs ys : List (Node × Line)) → are_once xs ≡ true → are_once ys ≡ true → ((p l : ℕ) → is_among xs p l ≡ true → is_among ys p l ≡ false) → are_once (xs ++ ys) ≡ true
 once-append [] ys first second apart = second
 once-append (x ∷ xs) ys first second apart =
-    let new : is_among (xs ++ ys) x.0.0 x.1.0 ≡ false =
-        among-append xs ys x.0.0 x.1.0
-        ∙ ap (λ b. b || is_among ys x.0.0 x.1.0) (not-true (is_among xs x.0.0 x.1.0) (and-left (not (is_among xs x.0.0 x.1.0)) (are_once xs) first))
-        ∙ apart x.0.0 x.1.0 (here x xs) in
-    let rest = once-append xs ys (and-right (not (is_among xs x.0.0 x.1.0)) (are_once xs) first) second (λ p l e. apart p l (later x xs p l e)) in
-    ap (λ b. not b && are_once (xs ++ ys)) new ∙ rest
+    let (new, rest) = and_parts (not (is_among xs x.0.0 x.1.0)) (are_once xs) first in
+    let apart_now : is_among (xs ++ ys) x.0.0 x.1.0 ≡ false =
+    among-append xs ys x.0.0 x.1.0
+    ∙ or_from (is_among xs x.0.0 x.1.0) (is_among ys x.0.0 x.1.0) (not-true (is_among xs x.0.0 x.1.0) new) (apart x.0.0 x.1.0 (here x xs)) in
+    let more = once-append xs ys rest second (λ p l e. apart p l (later x xs p l e)) in
+    ap (λ b. not b && are_once (xs ++ ys)) apart_now ∙ more
 
 -- ---- two steps
 
@@ -86,7 +65,7 @@ gone-joined r s t gone more way first second = record {
 
 -- ---- a step after which all nodes hold what they held
 
-and-not : (b : Bool) → (b && not b) ≡ false
+pub and-not : (b : Bool) → (b && not b) ≡ false
 and-not true = refl
 and-not false = refl
 
@@ -145,8 +124,14 @@ module _ (p : ℕ) (s t u : System) (before : (q : ℕ) → p ≤ q → t.nodes 
 
   changes-once : AreOneWay s t u
   changes-once = record {
-    comes = λ q l no yes. ⊎_elim (λ same. absurd (true≢false (sym yes ∙ ap (λ v. is_held (copy_of v l)) same ∙ no))) (λ same. ap (λ v. is_held (copy_of v l)) same ∙ yes) (stays-once q);
-    leaves = λ q l yes no. ⊎_elim (λ same. absurd (true≢false (sym yes ∙ sym (ap (λ v. is_held (copy_of v l)) same) ∙ no))) (λ same. ap (λ v. is_held (copy_of v l)) same ∙ no) (stays-once q);
+    comes = λ q l gone there. ⊎_elim
+        (λ same. absurd (true≢false (sym there ∙ ap (λ v. is_held (copy_of v l)) same ∙ gone)))
+        (λ same. ap (λ v. is_held (copy_of v l)) same ∙ there)
+        (stays-once q);
+    leaves = λ q l there gone. ⊎_elim
+        (λ same. absurd (true≢false (sym there ∙ sym (ap (λ v. is_held (copy_of v l)) same) ∙ gone)))
+        (λ same. ap (λ v. is_held (copy_of v l)) same ∙ gone)
+        (stays-once q);
   }
 
 pub turns-tell : TurnsTell

@@ -1,5 +1,5 @@
 -- A home has room for what it sends: it has at most one message to send to each node about a line.
-use Rattle.std.proofs.Common.{◌≡◌, ◌⊎◌, inl, inr, ℕ, zero, suc, ◌+◌, ◌*◌, ◌<◌, ◌≤◌, ◌==◌, Bool, true, false, cond, ◌&&◌, not, List, [], ◌∷◌, ◌++◌, length, map, All, slice_get, get_or, Option, Some, None, refl, sym, ap, subst, ◌∙◌, true≢false, arith, append_assoc, length-append}
+use Rattle.std.proofs.Common.{◌≡◌, ℕ, zero, suc, ◌+◌, ◌<◌, ◌≤◌, ◌==◌, Bool, true, false, cond, ◌&&◌, not, List, [], ◌∷◌, ◌++◌, length, map, All, slice_get, get_or, Option, Some, None, refl, sym, ap, subst, ◌∙◌, true≢false, arith, append_assoc, length-append}
 use Rattle.std.specs.List.{flat_map, remove}
 use Rattle.std.proofs.lemmas.Bool.{eqb-true, eq-eqb}
 use Rattle.std.proofs.lemmas.List.{append-nil}
@@ -10,16 +10,16 @@ use Rattle.std.proofs.lemmas.Grind.{flat_map-append}
 use Rattle.std.proofs.lemmas.Option.{get_or_from_slice_get}
 use Rattle.machine_config.specs.declared.config.Protocol.{Protocol}
 use Rattle.memory_contracts.specs.Protocol.Content.{count_to_node, from_home}
-use Rattle.memory_contracts.specs.Protocol.HomeTable.{HomeStep, home_row, home_takes, is_mesi, is_owner, grants_owned, grants_shared, collects, to_one}
+use Rattle.memory_contracts.specs.Protocol.HomeTable.{HomeStep, home_row, home_takes, is_mesi, grants_owned, grants_shared, collects, to_one}
 use Rattle.memory_contracts.specs.Protocol.Laws.{OneFromHome}
 use Rattle.memory_contracts.specs.Protocol.Lines.{HomeRecord, Phase, Idle, Collecting, Recalling, Granting, besides, is_some_node, joined, nobody}
 use Rattle.memory_contracts.specs.Protocol.Messages.{Message, GetS, GetM, Put, Inv, Recall, Grant, PutAck, InvAck, RecallAck, Done}
 use Rattle.memory_contracts.specs.Said.{Letter}
-use Rattle.directory.specs.Homes.{HomeView, Post, Serves, ServesOne, first_for, home_after, is_idle, post_to, posts}
+use Rattle.directory.specs.Homes.{HomeView, Post, first_for, home_after, is_idle, post_to, posts}
 use Rattle.coherent_memory.specs.Fine.{IsFine, IsRightPost}
 use Rattle.coherent_memory.specs.Rooms.{Grows, RoomStays, ServingGrows, ServingShortens, StartGrows, TakingGrows}
 use Rattle.coherent_memory.specs.Systems.{System, alone, content, home_at, home_number, is_kept, line_of, of_flight, of_letter, of_mail, of_post}
-use Rattle.coherent_memory.proofs.Counting.{IsAbout, count-append, from_home-all_mailed, posts-counted, posts_to, sum_below, sum_below-few}
+use Rattle.coherent_memory.proofs.Counting.{IsAbout, count-append, from_home-all_mailed, posts-counted, posts_to, sum_below-few}
 
 -- ---- what is to be sent grows
 
@@ -131,11 +131,11 @@ posts-between n l x s =
 sent-few : OneFromHome → (n p l : ℕ) (s : System) → IsFine n s → is_kept n s l ≡ true → home_number n l ≡ p → (old sent : List Post) → (s.homes p).outgoing ≡ old ++ sent → All (IsAbout n l) sent → length sent ≤ n
 sent-few one n p l s fine kept home old sent grown about =
     let few : (x : ℕ) → x < n → posts_to l sent x ≤ 1 = λ x below.
-        let all = posts-between n l x s in
-        let single = one n (content n s l) (line_of n s l) x (fine.lines l kept) below in
-        let here : (home_at n s l).outgoing ≡ old ++ sent = ap (λ h. (s.homes h).outgoing) home ∙ grown in
-        let split = ap (λ ps. count_to_node (flat_map (of_post l x) ps)) here ∙ ap count_to_node (flat_map-append (of_post l x) old sent) ∙ count-append (flat_map (of_post l x) old) (flat_map (of_post l x) sent) in
-        omega (arith, all, single, split) in
+    let all = posts-between n l x s in
+    let single = one n (content n s l) (line_of n s l) x (fine.lines l kept) below in
+    let here : (home_at n s l).outgoing ≡ old ++ sent = ap (λ h. (s.homes h).outgoing) home ∙ grown in
+    let split = ap (λ ps. count_to_node (flat_map (of_post l x) ps)) here ∙ ap count_to_node (flat_map-append (of_post l x) old sent) ∙ count-append (flat_map (of_post l x) old) (flat_map (of_post l x) sent) in
+    omega (arith, all, single, split) in
     let sum = posts-counted n l sent about in
     let bound = sum_below-few n (posts_to l sent) few in
     omega (arith, sum, bound)
@@ -144,8 +144,8 @@ grown-few : OneFromHome → (n p l : ℕ) (s : System) → IsFine n s → p < n 
 grown-few one n p l s fine below old [] grown about = omega arith
 grown-few one n p l s fine below old (post ∷ sent) grown about =
     let right : All (IsRightPost n (is_kept n s) p) (post ∷ sent) =
-        All-right (IsRightPost n (is_kept n s) p) old (post ∷ sent)
-        (subst (λ (ps : List Post). All (IsRightPost n (is_kept n s) p) ps) grown (fine.right.homes p below).outgoing) in
+    All-right (IsRightPost n (is_kept n s) p) old (post ∷ sent)
+    (subst (λ (ps : List Post). All (IsRightPost n (is_kept n s) p) ps) grown (fine.right.homes p below).outgoing) in
     let first : IsRightPost n (is_kept n s) p post = right 0 post (omega arith) in
     let line : post.line ≡ l = about 0 post (omega arith) in
     sent-few one n p l s fine (ap (is_kept n s) (sym line) ∙ first.line) (ap (home_number n) (sym line) ∙ first.home) old (post ∷ sent) grown

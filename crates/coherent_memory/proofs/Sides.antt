@@ -1,18 +1,18 @@
 -- A line as it is where one node has another side, and what a side that changes at one line does to it.
-use Rattle.std.proofs.Common.{◌≡◌, ℕ, ◌<◌, ◌%◌, ◌==◌, Bool, true, false, cond, List, [], ◌∷◌, ◌++◌, map, refl, sym, ap, subst, ◌∙◌}
+use Rattle.std.proofs.Common.{◌≡◌, ℕ, ◌%◌, ◌==◌, Bool, true, false, cond, List, [], ◌∷◌, ◌++◌, map, refl, sym, ap, subst, ◌∙◌}
 use Rattle.std.specs.List.{flat_map}
 use Rattle.std.proofs.lemmas.Bool.{eqb-true, eq-eqb}
 use Rattle.memory_contracts.specs.Protocol.Alike.{AreAlike, IsAlike}
 use Rattle.memory_contracts.specs.Protocol.Coherent.{Coherent}
 use Rattle.memory_contracts.specs.Protocol.Lines.{Cell, Copy, LineState, Stance, all_mailed, cell, mailed, with_cell, with_stance}
-use Rattle.memory_contracts.specs.Protocol.Messages.{Message, GetS, GetM, Put, Inv, Recall, Grant, PutAck, InvAck, RecallAck, Done}
+use Rattle.memory_contracts.specs.Protocol.Messages.{Message, GetS, GetM, Put, PutAck}
 use Rattle.memory_contracts.specs.Said.{Mail}
 use Rattle.node_memory.specs.Nodes.{NodeView}
 use Rattle.node_memory.specs.Sides.{Side, side_of}
-use Rattle.coherent_memory.specs.Systems.{System, alone, content, home_at, line_of, of_mail}
+use Rattle.coherent_memory.specs.Systems.{System, alone, home_at, line_of, of_mail}
 use Rattle.coherent_memory.specs.Turns.{with_node}
 use Rattle.coherent_memory.proofs.Adding.{between_in, more_to_ask, to_be_sent, under_way, waiting_for}
-use Rattle.coherent_memory.proofs.Alike.{AreReordered, AreReordered-same, AreReordered-sym, AreReordered-trans, IsAlike-refl, all_mailed-append}
+use Rattle.coherent_memory.proofs.Alike.{AreReordered, AreReordered-same, AreReordered-sym, AreReordered-trans, IsAlike-refl, all_mailed-append, all_mailed-copy, all_mailed-register}
 use Rattle.coherent_memory.proofs.Keeping.{ProtocolLaws}
 use Rattle.coherent_memory.proofs.Lines.{cells_alike, stand}
 use Rattle.coherent_memory.proofs.Places.{eqb-refl, eqb-sym, joined_all, with_at-both}
@@ -32,13 +32,6 @@ standing-mailed m copy register c = refl
 standing-all : (ms : List Message) (copy : Copy) (register : Bool) (c : Cell) → all_mailed ms (standing copy register c) ≡ standing copy register (all_mailed ms c)
 standing-all [] copy register c = refl
 standing-all (m ∷ ms) copy register c = ap (mailed m) (standing-all ms copy register c) ∙ standing-mailed m copy register (all_mailed ms c)
-
--- messages change neither
-pub copy-all : (ms : List Message) (copy : Copy) (register : Bool) → (all_mailed ms (stand copy register)).stance.copy ≡ copy
-copy-all ms copy register = ap (λ (c : Cell). c.stance.copy) (standing-all ms copy register (stand copy register))
-
-pub register-all : (ms : List Message) (copy : Copy) (register : Bool) → (all_mailed ms (stand copy register)).stance.register ≡ register
-register-all ms copy register = ap (λ (c : Cell). c.stance.register) (standing-all ms copy register (stand copy register))
 
 -- ---- a line where node x has another cell
 
@@ -72,6 +65,12 @@ said_between n s p outbox l =
 
 abbrev pub side_cell : ℕ → System → ℕ → Side → ℕ → Cell
 side_cell n s p a l = all_mailed (said_between n s p a.outbox l) (stand (a.copies l) (a.registers l))
+
+pub copy-there : (n : ℕ) (s : System) (p : ℕ) (a : Side) (l : ℕ) → (side_cell n s p a l).stance.copy ≡ a.copies l
+copy-there n s p a l = all_mailed-copy (said_between n s p a.outbox l) (stand (a.copies l) (a.registers l))
+
+pub register-there : (n : ℕ) (s : System) (p : ℕ) (a : Side) (l : ℕ) → (side_cell n s p a l).stance.register ≡ a.registers l
+register-there n s p a l = all_mailed-register (said_between n s p a.outbox l) (stand (a.copies l) (a.registers l))
 
 abbrev pub seen : ℕ → System → ℕ → Side → ℕ → LineState
 seen n s p a l = with_cell p (side_cell n s p a l) (line_of n s l)

@@ -1,32 +1,23 @@
 -- A turn tells the lines that leave its node.
-use Rattle.std.proofs.Common.{◌≡◌, ◌≢◌, ℕ, suc, ◌+◌, ◌<◌, ◌≤◌, ◌==◌, Bool, true, false, cond, ◌&&◌, ◌||◌, not, List, [], ◌∷◌, ◌++◌, length, slice_get, Some, refl, sym, ap, subst, ◌∙◌, true≢false, arith, length-append}
-use Rattle.std.specs.List.{list_any}
+use Rattle.std.proofs.Common.{◌≡◌, ◌≢◌, ℕ, ◌<◌, ◌≤◌, ◌==◌, Bool, true, false, cond, ◌&&◌, not, List, [], ◌++◌, length, refl, sym, ap, subst, ◌∙◌, true≢false, arith, length-append}
 use Rattle.std.proofs.lemmas.Bool.{eqb-true, eq-eqb, ne_eqb}
-use Rattle.std.proofs.lemmas.Bool.Decides.{nat_tests}
-use Rattle.std.proofs.lemmas.List.{length-map}
 use Rattle.rsim_base.specs.declared.memory.Line.{Line}
 use Rattle.rsim_base.specs.declared.memory.Node.{Node}
-use Rattle.memory_contracts.specs.Carrier.{Flight}
-use Rattle.memory_contracts.specs.Protocol.Events.{is_to_home}
-use Rattle.memory_contracts.specs.Protocol.Lines.{Copy, Absent, Shared, Owned, Evicting, Emptied}
-use Rattle.memory_contracts.specs.Protocol.Messages.{Message, Inv, Recall, Grant, PutAck, GetS, GetM, Put, InvAck, RecallAck, Done}
-use Rattle.memory_contracts.specs.Protocol.NodeTable.{evicted, granted, is_held, node_takes}
-use Rattle.memory_contracts.specs.Said.{Letter, letter_of, said}
-use Rattle.memory_contracts.specs.Store.{Wish}
-use Rattle.memory_contracts.specs.Updates.{with_at}
+use Rattle.memory_contracts.specs.Carrier.{CarrierView}
+use Rattle.memory_contracts.specs.Protocol.NodeTable.{is_held}
+use Rattle.memory_contracts.specs.Said.{Letter, letter_of}
 use Rattle.node_memory.specs.Nodes.{NodeView, awaits, copy_of, left_from, without_first_mail}
-use Rattle.node_memory.specs.Rows.{after_message, is_grant, lost_at, step_at}
-use Rattle.node_memory.specs.Sides.{Begins, evicts, starts, stays, Side, asks_for, evicts_line, side_of, takes_message}
+use Rattle.node_memory.specs.Rows.{after_message, is_grant, lost_at}
+use Rattle.node_memory.specs.Sides.{Side, side_of}
 use Rattle.node_memory.specs.Sound.{IsSound}
 use Rattle.node_memory.specs.Starting.{begins}
 use Rattle.coherent_memory.specs.Fine.{IsFine}
 use Rattle.coherent_memory.specs.Laws.{BeginKeeps, GrantsAwaited}
-use Rattle.coherent_memory.specs.Lost.{AreGone, AreGoneFrom, TurnTells, holds}
+use Rattle.coherent_memory.specs.Lost.{AreGone, TurnTells, holds}
 use Rattle.coherent_memory.specs.Systems.{System}
-use Rattle.coherent_memory.specs.Turns.{HomeSends, NodeSends, ends, refused, sends, posted, without_post, without_mail, Receives, full, nothing, by_home, by_node, Turn, begun, lost_at_begin, node_takes as takes_at, without_flight}
-use Rattle.coherent_memory.proofs.Lost.{AreOneWay, are_lines, gone-from_node, gone-joined, gone-none, left-length}
+use Rattle.coherent_memory.specs.Turns.{HomeSends, NodeSends, ends, refused, sends, posted, without_post, without_mail, Receives, full, nothing, by_home, by_node, begun, lost_at_begin, with_carrier, with_node, without_flight}
+use Rattle.coherent_memory.proofs.Lost.{AreOneWay, gone-from_node, gone-joined, gone-none, left-length}
 use Rattle.coherent_memory.proofs.NodeLaws.{NodeLaws}
-
 use Rattle.coherent_memory.proofs.Leaving.{LeavesOne, LeavesWith, begin-leaves, message-leaves}
 use Rattle.coherent_memory.proofs.Places.{with_at-other, with_at-same}
 
@@ -60,27 +51,27 @@ node-sends p _ _ (sends s t mail m next says free rest) =
     let more = node-sends p (without_mail p (posted p mail.to m s)) t rest in
     record { others = λ q other. more.others q other ∙ first.others q other; copies = λ q l. more.copies q l ∙ first.copies q l }
 
--- ---- the parts of a turn
+-- ---- a node begins
 
-module _ (laws : NodeLaws) (begin_keeps : BeginKeeps) (granted_awaited : GrantsAwaited) (n p now : ℕ) (s : System)
-    (fine : IsFine n s) (below : p < n) (sound : IsSound (s.nodes p)) (later : IsSound ((begun p now s).nodes p)) where
-  fine-begun : IsFine n (begun p now s)
-  fine-begun = (begin_keeps n p now s fine below sound).fine
-
+module _ (laws : NodeLaws) (n p now : ℕ) (s : System) (fine : IsFine n s) (below : p < n) (sound : IsSound (s.nodes p)) where
   others-begun : (q : ℕ) → q ≢ p → (begun p now s).nodes q ≡ s.nodes q
   others-begun q other = with_at-other s.nodes p (begins now (s.nodes p)).after q (ne_eqb q p other)
 
   begun-leaves : LeavesOne (side_of (s.nodes p)) (side_of ((begun p now s).nodes p)) (begins now (s.nodes p)).lost
   begun-leaves =
-      subst (λ (v : NodeView). LeavesOne (side_of (s.nodes p)) (side_of v) (begins now (s.nodes p)).lost) (sym (with_at-same s.nodes p (begins now (s.nodes p)).after))
-      (begin-leaves (s.nodes p).wishes (side_of (s.nodes p)) (side_of (begins now (s.nodes p)).after) (begins now (s.nodes p)).lost (laws.begin now (s.nodes p) sound))
+      let v = s.nodes p in
+      let b = begins now v in
+      subst (λ (w : NodeView). LeavesOne (side_of v) (side_of w) b.lost) (sym (with_at-same s.nodes p b.after))
+      (begin-leaves v.wishes (side_of v) (side_of b.after) b.lost (laws.begin now v sound))
 
   begun-gone : AreGone s (begun p now s) (lost_at_begin p now s)
   begun-gone =
-      subst (λ x. AreGone s (begun p now s) (left_from x (begins now (s.nodes p)).lost)) (sym (fine.right.nodes p below).at)
-      (gone-from_node p s (begun p now s) (begins now (s.nodes p)).lost others-begun begun-leaves.exactly begun-leaves.few)
+      let lost = (begins now (s.nodes p)).lost in
+      subst (λ x. AreGone s (begun p now s) (left_from x lost)) (sym (fine.right.nodes p below).at)
+      (gone-from_node p s (begun p now s) lost others-begun begun-leaves.exactly begun-leaves.few)
 
--- after a message was taken, or none
+-- ---- a message is taken, or none
+
 record HasTaken (p : ℕ) (s t : System) (gone : List (Node × Line)) : Type 0 where
   pub told : AreGone s t gone
   pub few : length gone ≤ 1
@@ -96,33 +87,42 @@ taken-none p s t same = record {
   comes = λ l gone there. absurd (true≢false (sym there ∙ ap (λ (nodes : ℕ → NodeView). is_held (copy_of (nodes p) l)) same ∙ gone));
 }
 
+-- by the node
+module _ (laws : NodeLaws) (n p : ℕ) (s : System) (fine : IsFine n s) (below : p < n) (sound : IsSound (s.nodes p))
+    (m : Letter) (awaited : is_grant m.message ≡ true → awaits (s.nodes p) m.line ≡ true) (carrier : CarrierView) where
+  after-taking : System
+  after-taking = with_node p (after_message m (s.nodes p)) (with_carrier carrier s)
+
+  node-leaves : LeavesWith m (side_of (s.nodes p)) (side_of (after-taking.nodes p)) (lost_at m (s.nodes p))
+  unfolding after-taking
+  node-leaves =
+      let v = s.nodes p in
+      subst (λ (w : NodeView). LeavesWith m (side_of v) (side_of w) (lost_at m v)) (sym (with_at-same s.nodes p (after_message m v)))
+      (subst (λ (a : Side). LeavesWith m (side_of v) a (lost_at m v)) (sym (laws.message m v sound awaited)) (message-leaves m (side_of v)))
+
+  others-taking : (q : ℕ) → q ≢ p → after-taking.nodes q ≡ s.nodes q
+  unfolding after-taking
+  others-taking q other = with_at-other s.nodes p (after_message m (s.nodes p)) q (ne_eqb q p other)
+
+  node-taken : HasTaken p s after-taking (left_from (s.nodes p).at (lost_at m (s.nodes p)))
+  node-taken = record {
+    told =
+        subst (λ x. AreGone s after-taking (left_from x (lost_at m (s.nodes p)))) (sym (fine.right.nodes p below).at)
+        (gone-from_node p s after-taking (lost_at m (s.nodes p)) others-taking node-leaves.exactly node-leaves.few);
+    few = let long = left-length (s.nodes p).at (lost_at m (s.nodes p)) in let one = node-leaves.few in omega (arith, long, one);
+    others = others-taking;
+    comes = λ l gone there. let (same, grants) = node-leaves.comes l gone there in ap (awaits (s.nodes p)) same ∙ awaited grants;
+  }
+
 module _ (laws : NodeLaws) (granted_awaited : GrantsAwaited) (n p now : ℕ) (s : System) (fine : IsFine n s) (below : p < n) (sound : IsSound (s.nodes p)) where
-  module _ (i : ℕ) (f : Flight) (stands : slice_get s.carrier.flights i ≡ Some f) (to : f.to ≡ p) where
-    awaited-if : is_grant (said f.message) ≡ true → awaits (s.nodes p) f.message.line.0 ≡ true
-    awaited-if grants = granted_awaited n p i f s fine below stands to grants
-
-    node-leaves : LeavesWith (letter_of f.message) (side_of (s.nodes p)) (side_of ((takes_at p f.message (without_flight i s)).nodes p)) (lost_at (letter_of f.message) (s.nodes p))
-    node-leaves =
-        subst (λ (v : NodeView). LeavesWith (letter_of f.message) (side_of (s.nodes p)) (side_of v) (lost_at (letter_of f.message) (s.nodes p))) (sym (with_at-same s.nodes p (after_message (letter_of f.message) (s.nodes p))))
-        (subst (λ (x : Side). LeavesWith (letter_of f.message) (side_of (s.nodes p)) x (lost_at (letter_of f.message) (s.nodes p))) (sym (laws.message (letter_of f.message) (s.nodes p) sound awaited-if))
-        (message-leaves (letter_of f.message) (side_of (s.nodes p))))
-
-    node-taken : HasTaken p s (takes_at p f.message (without_flight i s)) (left_from (s.nodes p).at (lost_at (letter_of f.message) (s.nodes p)))
-    node-taken = record {
-      told =
-          subst (λ x. AreGone s (takes_at p f.message (without_flight i s)) (left_from x (lost_at (letter_of f.message) (s.nodes p)))) (sym (fine.right.nodes p below).at)
-          (gone-from_node p s (takes_at p f.message (without_flight i s)) (lost_at (letter_of f.message) (s.nodes p)) (λ q other. with_at-other s.nodes p (after_message (letter_of f.message) (s.nodes p)) q (ne_eqb q p other)) node-leaves.exactly node-leaves.few);
-      few = let long = left-length (s.nodes p).at (lost_at (letter_of f.message) (s.nodes p)) in let one = node-leaves.few in omega (arith, long, one);
-      others = λ q other. with_at-other s.nodes p (after_message (letter_of f.message) (s.nodes p)) q (ne_eqb q p other);
-      comes = λ l gone there. let (same, grants) = node-leaves.comes l gone there in ap (awaits (s.nodes p)) same ∙ awaited-if grants;
-    }
-
   receives-taken : (t : System) (gone : List (Node × Line)) → Receives p now s t gone → HasTaken p s t gone
+  unfolding after-taking
   receives-taken t _ (full no_room same) = taken-none p s t (ap (λ (s : System). s.nodes) same)
   receives-taken t _ (nothing has_room none same) = taken-none p s t (ap (λ (s : System). s.nodes) same)
   receives-taken t _ (by_home i f has_room next stands to kind takes) = taken-none p s t (ap (λ (s : System). s.nodes) takes.2)
   receives-taken t _ (by_node i f has_room next stands to kind same) =
-      subst (λ (t : System). HasTaken p s t (left_from (s.nodes p).at (lost_at (letter_of f.message) (s.nodes p)))) (sym same) (node-taken i f stands to)
+      subst (λ (t : System). HasTaken p s t (left_from (s.nodes p).at (lost_at (letter_of f.message) (s.nodes p)))) (sym same)
+      (node-taken laws n p s fine below sound (letter_of f.message) (λ grants. granted_awaited n p i f s fine below stands to grants) (without_flight i s).carrier)
 
 -- ---- the turn
 
@@ -169,11 +169,10 @@ pub turn-tells : NodeLaws → BeginKeeps → GrantsAwaited → TurnTells
 turn-tells laws begin_keeps granted_awaited n p now s t gone fine sound later below turn =
     let b = begun p now s in
     let lost = (begins now (s.nodes p)).lost in
-    let leaves = begun-leaves laws begin_keeps granted_awaited n p now s fine below sound later in
-    let others = others-begun laws begin_keeps granted_awaited n p now s fine below sound later in
-    let first = begun-gone laws begin_keeps granted_awaited n p now s fine below sound later in
-    let fine_begun = fine-begun laws begin_keeps granted_awaited n p now s fine below sound later in
-    let taken = receives-taken laws granted_awaited n p now b fine_begun below later turn.taken turn.told turn.receives in
+    let leaves = begun-leaves laws n p now s fine below sound in
+    let others = others-begun laws n p now s fine below sound in
+    let first = begun-gone laws n p now s fine below sound in
+    let taken = receives-taken laws granted_awaited n p now b (begin_keeps n p now s fine below sound).fine below later turn.taken turn.told turn.receives in
     let told = gone-joined s b turn.taken (lost_at_begin p now s) turn.told (one-way p s b turn.taken lost turn.told leaves others taken) first taken.told in
     let keeps = keeps-sent p now turn.taken turn.sent t turn.home turn.node in
     let long = ap length turn.lost ∙ length-append (lost_at_begin p now s) turn.told in

@@ -5,6 +5,7 @@ ghost use Rattle.coherent_memory.specs.Rooms.{RoomStays, ServingGrows, ServingSh
 ghost use Rattle.coherent_memory.specs.Laws.{BeginKeeps, CarryingKeeps, GrantsAwaited, HomeTakesKeeps, MailKeeps, NodeTakesKeeps, NothingKeeps, PostKeeps, ServingKeeps, WritingKeeps};
 
 use memory_contracts::lines_stay_coherent;
+use node_memory::tables_follow;
 
 /// Every step keeps each line coherent; only a write changes the content of a line, its own.
 pub fn steps_keep_lines()
@@ -26,6 +27,7 @@ pub fn nodes_keep_lines()
     ensures write { WritingKeeps }
 {
     lines_stay_coherent();
+    tables_follow();
 }
 
 /// A home that has room for a message has room for what it sends, and for what it sends to those that waited.
@@ -46,4 +48,5 @@ pub fn turns_tell()
 {
     steps_keep_lines();
     nodes_keep_lines();
+    tables_follow();
 }
