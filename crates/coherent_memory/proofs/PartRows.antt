@@ -42,6 +42,21 @@ module _ {A B : Type 0} (view : A → B) (none : B) where
   pub rows_of-set : (xs : List A) (p : ℕ) (x : A) → p < length xs → rows_of view none (set xs p x) ≡ with_at (rows_of view none xs) p (view x)
   rows_of-set xs p x below = λ i q. set-at xs p q x below (q == p) refl i
 
+  -- the part that a call was given, and what the call made of it
+  pub rows_of-given : (xs : List A) (p : ℕ) (d : A) → p < length xs → d ≡ get_or xs p d → rows_of view none xs p ≡ view d
+  rows_of-given xs p d below given = rows_of-at xs p d below ∙ ap view (sym given)
+
+  pub rows_of-changed : (xs : List A) (p : ℕ) (d x : A) (f : B → B) → p < length xs → d ≡ get_or xs p d → view x ≡ f (view d) →
+      rows_of view none (set xs p x) ≡ with_at (rows_of view none xs) p (f (rows_of view none xs p))
+  rows_of-changed xs p d x f below given is =
+      rows_of-set xs p x below ∙ ap (λ (y : B). with_at (rows_of view none xs) p y) (is ∙ ap f (sym (rows_of-given xs p d below given)))
+
+  -- what is true of each part is true of each number that there is
+  pub rows_of-each : (P : B → Type 0) (xs : List A) (p : ℕ) → ((x : A) → P (view x)) → p < length xs → P (rows_of view none xs p)
+  rows_of-each P [] p each below = absurd (omega (arith, below))
+  rows_of-each P (x ∷ xs) zero each below = each x
+  rows_of-each P (x ∷ xs) (suc p) each below = rows_of-each P xs p each (omega (arith, below))
+
   pub rows_of-pushed : (xs : List A) (x : A) → rows_of view none (xs ++ x ∷ []) (length xs) ≡ view x
   rows_of-pushed xs x = ap seen (slice_get-pushed xs x)
 

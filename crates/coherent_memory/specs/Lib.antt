@@ -1,4 +1,3 @@
-pub mod FabricViews
 pub mod Fabrics
 pub mod Fine
 pub mod HomeRows

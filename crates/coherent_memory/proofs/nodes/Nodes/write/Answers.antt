@@ -1,0 +1,9 @@
+use Rattle.node_memory.specs.NodeViews.{node_of}
+use Rattle.node_memory.specs.Nodes.{after_write}
+use Rattle.coherent_memory.specs.NodeRows.{no_node}
+use Rattle.coherent_memory.proofs.PartRows.{rows_of-changed}
+use Rattle.coherent_memory.proofs.nodes.Nodes.write.Goals as goal
+
+pub returns-clause-after : goal.returns-clause-after
+returns-clause-after c =
+    rows_of-changed node_of no_node c.args.self.now.list.items c.args.p.0 c.index_mut-node.result.now c.write.new.self (after_write c.args.a.0 c.args.n c.args.v) c.requires.node c.index_mut-node.ensures.value c.write.ensures.after
