@@ -1,3 +1,4 @@
+pub mod FabricViews
 pub mod Fabrics
 pub mod Fine
 pub mod HomeRows
