@@ -9,17 +9,20 @@ pub mod Keeping
 pub mod Leaving
 pub mod Lines
 pub mod Lost
+pub mod Fabrics
 mod Meanings
 pub mod Moving
 pub mod NodeLaws
 pub mod NodeRights
 mod PartRows
 pub mod Places
+mod Posting
 pub mod Quiet
 pub mod Receiving
 pub mod Rights
 pub mod Rooms
 pub mod Rows
+mod Serving
 pub mod Sides
 mod Sizes
 mod Soundness
