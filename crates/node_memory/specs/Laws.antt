@@ -11,14 +11,18 @@ use Rattle.memory_contracts.specs.Updates.{with_at}
 use Rattle.cache_levels.specs.Bytes.{written_at}
 use Rattle.cache_levels.specs.Levels.{held, owned}
 use Rattle.node_memory.specs.Nodes.{NodeView, after_read, after_wish, after_write, awaits, copy_of, line_at}
-use Rattle.node_memory.specs.Rows.{after_message}
+use Rattle.node_memory.specs.Rows.{after_message, is_grant}
 use Rattle.node_memory.specs.Sides.{Begins, Side, side_of, takes_message}
 use Rattle.node_memory.specs.Sound.{IsSound}
 use Rattle.node_memory.specs.Starting.{arrived, begins}
 
--- a message does to its line what the protocol's table says, and nothing to any other
+-- a message does to its line what the protocol's table says, and nothing to any other; a line that it grants has to be awaited
 abbrev pub MessageFollows : Type 0
-MessageFollows = (m : Letter) (v : NodeView) → IsSound v → side_of (after_message m v) ≡ takes_message m (side_of v)
+MessageFollows =
+    (m : Letter) (v : NodeView)
+    → IsSound v
+    → (is_grant m.message ≡ true → awaits v m.line ≡ true)
+    → side_of (after_message m v) ≡ takes_message m (side_of v)
 
 -- at the beginning of a tick at most one wish starts, and at most one line leaves for it
 abbrev pub BeginFollows : Type 0
