@@ -60,6 +60,7 @@ impl Coming {
     pub fn arrive(&mut self, levels: &mut Levels, latency: u32, now: u64)
         requires { AreSound levels.old }
         ensures levels { levels.new ≡ (arrive latency now (coming_in self.old) levels.old).levels }
+        ensures sound { AreSound levels.new }
         ensures coming { coming_in self.new ≡ (arrive latency now (coming_in self.old) levels.old).coming }
     {
         while self.first_is_due(latency, now) {
@@ -82,7 +83,9 @@ impl Coming {
 
 // Brings a line near if it is held.
 fn bring_if_held(levels: &mut Levels, line: Line)
-    ensures { levels.new ≡ near_if_held line.0 levels.old }
+    requires { AreSound levels.old }
+    ensures levels { levels.new ≡ near_if_held line.0 levels.old }
+    ensures sound { AreSound levels.new }
 {
     if levels.hold(line) {
         levels.bring_near(line);

@@ -68,7 +68,9 @@ impl Lines {
 
     /// Does to a line what a message asks for.
     pub fn change(&mut self, line: Line, change: &Change)
-        requires { Allows change.now line.0 self.old.levels }
+        requires sound { AreSound self.old.levels }
+        requires allowed { Allows change.now line.0 self.old.levels }
+        ensures sound { AreSound self.new.levels }
         ensures levels { self.new.levels ≡ levels_after change.now line.0 self.old.levels }
         ensures misses { self.new.misses ≡ misses_after change.now line.0 self.old.misses }
     {
@@ -123,6 +125,8 @@ impl Lines {
         requires absent { level.held line.0 self.old.levels ≡ false }
         requires unreserved { reserved_slot line.0 (self.old.levels).second ≡ None }
         requires slot { lacks_way (level.evicted line.0 self.old.levels) self.old.misses ≡ false }
+        requires slotless { IfSome (level.evicted line.0 self.old.levels) (λ e. IfSome e.line (λ victim. victim_of self.old.misses victim.0 ≡ None)) }
+        ensures sound { AreSound self.new.levels }
         ensures evicted { result ≡ level.evicted line.0 self.old.levels }
         ensures levels { self.new.levels ≡ level.with_room line.0 self.old.levels }
         ensures misses { IfSome result (λ e. self.new.misses ≡ slots_with e self.old.misses) }

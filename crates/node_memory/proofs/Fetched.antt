@@ -1,0 +1,87 @@
+-- Lines on their way to the first level.
+use Rattle.std.proofs.Common.{◌≡◌, ℕ, zero, suc, ◌+◌, ◌<◌, ◌≤◌, ◌&&◌, nat_le, Bool, true, false, cond, All, List, [], ◌∷◌, ◌++◌, drop, length, refl, ap, arith}
+use Rattle.std.proofs.lemmas.Bool.{and_from, and_parts, leb-false, leb-true, le-leb}
+use Rattle.cache_levels.specs.Levels.{LevelsView}
+use Rattle.node_memory.specs.Nodes.{Coming}
+use Rattle.node_memory.specs.Sound.{AreBefore, are_rising}
+use Rattle.node_memory.specs.Starting.{Arrival, arrive, is_due, is_first_due, near_if_held}
+
+-- ---- one line comes near, or none
+
+pub arrive-next : (latency now : ℕ) (c : Coming) (cs : List Coming) (levels : LevelsView) → is_due latency now c ≡ true → arrive latency now cs (near_if_held c.line levels) ≡ arrive latency now (c ∷ cs) levels
+arrive-next latency now c cs levels due = by (is_due latency now c) due
+  where
+    by : (b : Bool) → b ≡ true → arrive latency now cs (near_if_held c.line levels) ≡ cond b (arrive latency now cs (near_if_held c.line levels)) (record { levels = levels; coming = c ∷ cs })
+    by true e = refl
+    by false e = absurd cc
+
+pub arrive-none : (latency now : ℕ) (cs : List Coming) (levels : LevelsView) → is_first_due latency now cs ≡ false → arrive latency now cs levels ≡ record { levels = levels; coming = cs }
+arrive-none latency now [] levels due = refl
+arrive-none latency now (c ∷ cs) levels due = ap (λ b. cond b (arrive latency now cs (near_if_held c.line levels)) (record { levels = levels; coming = c ∷ cs })) due
+
+-- ---- those that are left
+
+-- what a list of lines has, if it is left of one in which each has it
+left : (latency now : ℕ) (P : List Coming → Type 0) → ((c : Coming) (cs : List Coming) → P (c ∷ cs) → P cs) → (cs : List Coming) (levels : LevelsView) → P cs → P (arrive latency now cs levels).coming
+left latency now P tail [] levels all = all
+left latency now P tail (c ∷ cs) levels all = by (is_due latency now c)
+  where
+    by : (b : Bool) → P (cond b (arrive latency now cs (near_if_held c.line levels)) (record { levels = levels; coming = c ∷ cs })).coming
+    by true = left latency now P tail cs (near_if_held c.line levels) (tail c cs all)
+    by false = all
+
+before-tail : (now : ℕ) (c : Coming) (cs : List Coming) → AreBefore now (c ∷ cs) → AreBefore now cs
+before-tail now c cs before = λ k d below. before (suc k) d (omega (arith, below))
+
+before-head : (now : ℕ) (c : Coming) (cs : List Coming) → AreBefore now (c ∷ cs) → c.since < now
+before-head now c cs before = before 0 c (omega arith)
+
+rising-from : (low from : ℕ) (cs : List Coming) → low ≤ from → are_rising from cs ≡ true → are_rising low cs ≡ true
+rising-from low from [] under rising = refl
+rising-from low from (c ∷ cs) under rising =
+    let (first, rest) = and_parts (nat_le from c.since) (are_rising (suc c.since) cs) rising in
+    let above = leb-true from c.since first in
+    and_from (nat_le low c.since) (are_rising (suc c.since) cs) (le-leb low c.since (omega (arith, above, under))) rest
+
+rising-tail : (c : Coming) (cs : List Coming) → are_rising 0 (c ∷ cs) ≡ true → are_rising 0 cs ≡ true
+rising-tail c cs rising =
+    let (first, rest) = and_parts (nat_le 0 c.since) (are_rising (suc c.since) cs) rising in
+    rising-from 0 (suc c.since) cs (omega arith) rest
+
+pub arrive-rising : (latency now : ℕ) (cs : List Coming) (levels : LevelsView) → are_rising 0 cs ≡ true → are_rising 0 (arrive latency now cs levels).coming ≡ true
+arrive-rising latency now = left latency now (λ cs. are_rising 0 cs ≡ true) rising-tail
+
+pub arrive-before : (latency now : ℕ) (cs : List Coming) (levels : LevelsView) → AreBefore now cs → AreBefore now (arrive latency now cs levels).coming
+arrive-before latency now = left latency now (AreBefore now) (before-tail now)
+
+-- ticks that rise to below one are no more than there are
+rising-few : (from now : ℕ) (cs : List Coming) → from ≤ now → are_rising from cs ≡ true → AreBefore now cs → from + length cs ≤ now
+rising-few from now [] low rising before = omega (arith, low)
+rising-few from now (c ∷ cs) low rising before =
+    let (first, rest) = and_parts (nat_le from c.since) (are_rising (suc c.since) cs) rising in
+    let above = leb-true from c.since first in
+    let below = before-head now c cs before in
+    let more = rising-few (suc c.since) now cs (omega (arith, below)) rest (before-tail now c cs before) in
+    omega (arith, above, more)
+
+-- those that are left are not due, so they are fewer than the ticks that they take
+pub arrive-few : (latency now : ℕ) (cs : List Coming) (levels : LevelsView) → latency ≤ 64 → are_rising 0 cs ≡ true → AreBefore now cs → length (arrive latency now cs levels).coming < 64
+arrive-few latency now [] levels short rising before = omega arith
+arrive-few latency now (c ∷ cs) levels short rising before = by (is_due latency now c) refl
+  where
+    by : (b : Bool) → is_due latency now c ≡ b → length (cond b (arrive latency now cs (near_if_held c.line levels)) (record { levels = levels; coming = c ∷ cs })).coming < 64
+    by true e = arrive-few latency now cs (near_if_held c.line levels) short (rising-tail c cs rising) (before-tail now c cs before)
+    by false e =
+        let (first, rest) = and_parts (nat_le 0 c.since) (are_rising (suc c.since) cs) rising in
+        let below = before-head now c cs before in
+        let more = rising-few (suc c.since) now cs (omega (arith, below)) rest (before-tail now c cs before) in
+        let late = leb-false (c.since + latency) now e in
+        omega (arith, more, late, short)
+
+-- one more, of this tick
+pub rising-push : (from now line : ℕ) (cs : List Coming) → from ≤ now → are_rising from cs ≡ true → AreBefore now cs → are_rising from (cs ++ record { line = line; since = now } ∷ []) ≡ true
+rising-push from now line [] low rising before = and_from (nat_le from now) true (le-leb from now low) refl
+rising-push from now line (c ∷ cs) low rising before =
+    let (first, rest) = and_parts (nat_le from c.since) (are_rising (suc c.since) cs) rising in
+    let below = before-head now c cs before in
+    and_from (nat_le from c.since) (are_rising (suc c.since) (cs ++ record { line = line; since = now } ∷ [])) first (rising-push (suc c.since) now line cs (omega (arith, below)) rest (before-tail now c cs before))
