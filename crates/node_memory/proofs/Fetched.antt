@@ -4,31 +4,18 @@ use Rattle.std.proofs.lemmas.Bool.{and_from, and_parts, leb-false, leb-true, le-
 use Rattle.cache_levels.specs.Levels.{LevelsView}
 use Rattle.node_memory.specs.Nodes.{Coming}
 use Rattle.node_memory.specs.Sound.{AreBefore, are_rising}
-use Rattle.node_memory.specs.Starting.{Arrival, arrive, is_due, is_first_due, near_if_held}
-
--- ---- one line comes near, or none
-
-pub arrive-next : (latency now : ℕ) (c : Coming) (cs : List Coming) (levels : LevelsView) → is_due latency now c ≡ true → arrive latency now cs (near_if_held c.line levels) ≡ arrive latency now (c ∷ cs) levels
-arrive-next latency now c cs levels due = by (is_due latency now c) due
-  where
-    by : (b : Bool) → b ≡ true → arrive latency now cs (near_if_held c.line levels) ≡ cond b (arrive latency now cs (near_if_held c.line levels)) (record { levels = levels; coming = c ∷ cs })
-    by true e = refl
-    by false e = absurd cc
-
-pub arrive-none : (latency now : ℕ) (cs : List Coming) (levels : LevelsView) → is_first_due latency now cs ≡ false → arrive latency now cs levels ≡ record { levels = levels; coming = cs }
-arrive-none latency now [] levels due = refl
-arrive-none latency now (c ∷ cs) levels due = ap (λ b. cond b (arrive latency now cs (near_if_held c.line levels)) (record { levels = levels; coming = c ∷ cs })) due
+use Rattle.node_memory.specs.Starting.{arrive, is_due, near_if_held}
 
 -- ---- those that are left
 
 -- what a list of lines has, if it is left of one in which each has it
 left : (latency now : ℕ) (P : List Coming → Type 0) → ((c : Coming) (cs : List Coming) → P (c ∷ cs) → P cs) → (cs : List Coming) (levels : LevelsView) → P cs → P (arrive latency now cs levels).coming
 left latency now P tail [] levels all = all
-left latency now P tail (c ∷ cs) levels all = by (is_due latency now c)
+left latency now P tail (c ∷ cs) levels all = by (is_due latency now c) (left latency now P tail cs (near_if_held c.line levels) (tail c cs all))
   where
-    by : (b : Bool) → P (cond b (arrive latency now cs (near_if_held c.line levels)) (record { levels = levels; coming = c ∷ cs })).coming
-    by true = left latency now P tail cs (near_if_held c.line levels) (tail c cs all)
-    by false = all
+    by : (b : Bool) → P (arrive latency now cs (near_if_held c.line levels)).coming → P (cond b (arrive latency now cs (near_if_held c.line levels)) (record { levels = levels; coming = c ∷ cs })).coming
+    by true rest = rest
+    by false rest = all
 
 before-tail : (now : ℕ) (c : Coming) (cs : List Coming) → AreBefore now (c ∷ cs) → AreBefore now cs
 before-tail now c cs before = λ k d below. before (suc k) d (omega (arith, below))
@@ -67,11 +54,11 @@ rising-few from now (c ∷ cs) low rising before =
 -- those that are left are not due, so they are fewer than the ticks that they take
 pub arrive-few : (latency now : ℕ) (cs : List Coming) (levels : LevelsView) → latency ≤ 64 → are_rising 0 cs ≡ true → AreBefore now cs → length (arrive latency now cs levels).coming < 64
 arrive-few latency now [] levels short rising before = omega arith
-arrive-few latency now (c ∷ cs) levels short rising before = by (is_due latency now c) refl
+arrive-few latency now (c ∷ cs) levels short rising before = by (is_due latency now c) refl (arrive-few latency now cs (near_if_held c.line levels) short (rising-tail c cs rising) (before-tail now c cs before))
   where
-    by : (b : Bool) → is_due latency now c ≡ b → length (cond b (arrive latency now cs (near_if_held c.line levels)) (record { levels = levels; coming = c ∷ cs })).coming < 64
-    by true e = arrive-few latency now cs (near_if_held c.line levels) short (rising-tail c cs rising) (before-tail now c cs before)
-    by false e =
+    by : (b : Bool) → is_due latency now c ≡ b → length (arrive latency now cs (near_if_held c.line levels)).coming < 64 → length (cond b (arrive latency now cs (near_if_held c.line levels)) (record { levels = levels; coming = c ∷ cs })).coming < 64
+    by true e rest = rest
+    by false e rest =
         let (first, rest) = and_parts (nat_le 0 c.since) (are_rising (suc c.since) cs) rising in
         let below = before-head now c cs before in
         let more = rising-few (suc c.since) now cs (omega (arith, below)) rest (before-tail now c cs before) in

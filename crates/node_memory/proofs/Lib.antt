@@ -1,2 +1,5 @@
 pub mod Fetched
-pub mod Wishing
+pub mod Fits
+pub mod Held
+pub mod LineViews
+pub mod Victims

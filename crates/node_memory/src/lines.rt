@@ -93,6 +93,7 @@ impl Lines {
 
     /// Whether what there is of its line meets a wish.
     pub fn meets(&self, wish: Wanted) -> bool
+        requires { AreSound self.now.levels }
         ensures { result ≡ meets wish.own (kept_as (level.copy_of wish.line.0 self.now.levels) (victim_of self.now.misses wish.line.0)) }
     {
         self.levels.hold(wish.line) && (!wish.own || self.levels.own(wish.line))
@@ -100,6 +101,7 @@ impl Lines {
 
     /// Whether a line is leaving, or awaited, or no register is free.
     pub fn is_busy(&self, line: Line) -> bool
+        requires { AreSound self.now.levels }
         ensures { result ≡ (is_leaving (kept_as (level.copy_of line.0 self.now.levels) (victim_of self.now.misses line.0)) || is_some (register_of self.now.misses line.0) || registers_full self.now.misses) }
     {
         (!self.levels.hold(line) && self.misses.has_slot(line))

@@ -1,0 +1,123 @@
+-- What a node has of one line, and how a message changes it.
+use Rattle.std.proofs.Common.{◌≡◌, ◌≢◌, ℕ, ◌==◌, Bool, true, false, cond, IsTrue, List, slice_set, Option, Some, None, is_some, option_map, refl, sym, ap, ◌∙◌, ⊎_elim}
+use Rattle.std.specs.Option.{option_map_or}
+use Rattle.std.proofs.lemmas.Bool.{eqb-true}
+use Rattle.cache_sets.specs.Caches.{dropped, filled, reserved_slot, slot_of}
+use Rattle.cache_sets.proofs.Looking.{IsApart-sound, LooksUp-dropped, LooksUp-filled}
+use Rattle.cache_levels.specs.Levels as level
+use Rattle.cache_levels.specs.Levels.{LevelsView, filled_line, lost, shared, with_line}
+use Rattle.cache_levels.specs.Sound.{AreSound}
+use Rattle.cache_levels.specs.declared.levels.LineCopy.{LineCopy}
+use Rattle.cache_levels.proofs.Copying.{change_copies, copy_in, fill_copies}
+use Rattle.memory_contracts.specs.Protocol.Lines.{Copy}
+use Rattle.memory_contracts.specs.Updates.{with_at}
+use Rattle.miss_registers.specs.Misses.{MissView, register_of, victim_of}
+use Rattle.miss_registers.specs.OneLine.{register_of-without_register, victim_of-with_emptied, victim_of-without_victim}
+use Rattle.node_memory.specs.Nodes.{NodeView, kept_as}
+use Rattle.node_memory.specs.Rows.{Allows, levels_after, misses_after}
+use Rattle.node_memory.specs.declared.table.Change.{Change}
+use Rattle.node_memory.specs.declared.table.Change.TheVariants.{Nothing, Lose, Share, Fill, EmptySlot, FreeSlot}
+
+-- its copy in the caches, its victim slot, whether its register asks to own it, and the way that is reserved for it
+pub record LineView : Type 0 where
+  pub copy : Option LineCopy
+  pub slot : Option (Option (List ℕ))
+  pub register : Option Bool
+  pub way : Option ℕ
+
+abbrev pub line_view : LevelsView → MissView → ℕ → LineView
+line_view levels misses line = record {
+  copy = level.copy_of line levels;
+  slot = victim_of misses line;
+  register = register_of misses line;
+  way = reserved_slot line levels.second;
+}
+
+abbrev pub kept : LineView → Copy
+kept x = kept_as x.copy x.slot
+
+-- ---- one line changes, and no other
+
+pub with_at-map : {A B : Type 0} (g : A → B) (f : ℕ → A) (line : ℕ) (x : A) (l : ℕ) → g (with_at f line x l) ≡ with_at (λ k. g (f k)) line (g x) l
+with_at-map g f line x l = by (l == line)
+  where
+    by : (b : Bool) → g (cond b x (f l)) ≡ cond b (g x) (g (f l))
+    by true = refl
+    by false = refl
+
+-- what no line changes
+pub with_at-same : {A : Type 0} (f : ℕ → A) (line l : ℕ) → f l ≡ with_at f line (f line) l
+with_at-same f line l = by (l == line) refl
+  where
+    by : (b : Bool) → (l == line) ≡ b → f l ≡ cond b (f line) (f l)
+    by true e = ap f (eqb-true l line e)
+    by false e = refl
+
+pub view-with_at : (old : ℕ → LineView) (line : ℕ) (new given : LineView) (l : ℕ) →
+    given.copy ≡ with_at (λ k. (old k).copy) line new.copy l → given.slot ≡ with_at (λ k. (old k).slot) line new.slot l →
+    given.register ≡ with_at (λ k. (old k).register) line new.register l → given.way ≡ with_at (λ k. (old k).way) line new.way l → given ≡ with_at old line new l
+view-with_at old line new given l copy slot register way = (λ i. record { copy = copy i; slot = slot i; register = register i; way = way i }) ∙ by (l == line)
+  where
+    by : (b : Bool) → record { copy = cond b new.copy (old l).copy; slot = cond b new.slot (old l).slot; register = cond b new.register (old l).register; way = cond b new.way (old l).way } ≡ cond b new (old l)
+    by true = refl
+    by false = refl
+
+-- ---- a message
+
+abbrev pub unowned : LineCopy → LineCopy
+unowned copy = record copy { owned = false }
+
+abbrev pub changed : Change → LineView → LineView
+changed Lose x = record x { copy = None }
+changed Share x = record x { copy = option_map unowned x.copy }
+changed (Fill own bytes) x = record x { copy = Some (record { owned = own; bytes = bytes }); register = None; way = None }
+changed EmptySlot x = record x { slot = option_map (λ slot. None) x.slot }
+changed FreeSlot x = record x { slot = None }
+changed change x = x
+
+none-from : (b : Bool) (copies : List LineCopy) (slot : Option ℕ) → copy_in copies (cond b None slot) ≡ cond b None (copy_in copies slot)
+none-from true copies slot = refl
+none-from false copies slot = refl
+
+lost-copy : (line l : ℕ) (levels : LevelsView) → AreSound levels → level.copy_of l (lost line levels) ≡ with_at (λ k. level.copy_of k levels) line None l
+lost-copy line l levels sound = ap (copy_in levels.copies) ((LooksUp-dropped line levels.second sound.second).slot l) ∙ none-from (l == line) levels.copies (slot_of l levels.second)
+
+-- the levels after a fill, by the slot that is reserved
+abbrev fill_slot : ℕ → Bool → List ℕ → LevelsView → Option ℕ → LevelsView
+fill_slot line own bytes levels slot =
+    option_map_or
+    (λ s. record levels {
+      first = with_line line levels.first;
+      second = filled s line levels.second;
+      copies = slice_set levels.copies s (record { owned = own; bytes = bytes });
+    })
+    slot levels
+
+filled-way : (line l : ℕ) (own : Bool) (bytes : List ℕ) (levels : LevelsView) → AreSound levels → reserved_slot line levels.second ≢ None → reserved_slot l (filled_line line own bytes levels).second ≡ with_at (λ k. reserved_slot k levels.second) line None l
+filled-way line l own bytes levels sound some = by (reserved_slot line levels.second) refl
+  where
+    by : (way : Option ℕ) → reserved_slot line levels.second ≡ way → reserved_slot l (filled_line line own bytes levels).second ≡ with_at (λ k. reserved_slot k levels.second) line None l
+    by None e = absurd (some e)
+    by (Some slot) e = ap (λ o. reserved_slot l (fill_slot line own bytes levels o).second) e ∙ (LooksUp-filled slot line levels.second e sound.second).reserved l
+
+pub view-changed : (change : Change) (line l : ℕ) (levels : LevelsView) (misses : MissView) → AreSound levels → Allows change line levels →
+    line_view (levels_after change line levels) (misses_after change line misses) l ≡ with_at (line_view levels misses) line (changed change (line_view levels misses line)) l
+view-changed Nothing line l levels misses sound allowed = with_at-same (line_view levels misses) line l
+view-changed Lose line l levels misses sound allowed =
+    let old = line_view levels misses in
+    view-with_at old line (changed Lose (old line)) (line_view (lost line levels) misses l) l (lost-copy line l levels sound) (with_at-same (λ k. (old k).slot) line l) (with_at-same (λ k. (old k).register) line l)
+    ((LooksUp-dropped line levels.second sound.second).reserved l ∙ with_at-same (λ k. (old k).way) line l)
+view-changed Share line l levels misses sound allowed =
+    let old = line_view levels misses in
+    view-with_at old line (changed Share (old line)) (line_view (shared line levels) misses l) l (change_copies IsApart-sound line unowned levels sound l) (with_at-same (λ k. (old k).slot) line l) (with_at-same (λ k. (old k).register) line l) (with_at-same (λ k. (old k).way) line l)
+view-changed (Fill own bytes) line l levels misses sound allowed =
+    let old = line_view levels misses in
+    view-with_at old line (changed (Fill own bytes) (old line)) (line_view (filled_line line own bytes levels) (misses_after (Fill own bytes) line misses) l) l
+    (fill_copies IsApart-sound (λ slot line cache sound is. LooksUp-filled slot line cache is sound) line own bytes levels sound allowed l) (with_at-same (λ k. (old k).slot) line l)
+    (register_of-without_register line misses l) (filled-way line l own bytes levels sound allowed)
+view-changed EmptySlot line l levels misses sound allowed =
+    let old = line_view levels misses in
+    view-with_at old line (changed EmptySlot (old line)) (line_view levels (misses_after EmptySlot line misses) l) l (with_at-same (λ k. (old k).copy) line l) (victim_of-with_emptied line misses l) (with_at-same (λ k. (old k).register) line l) (with_at-same (λ k. (old k).way) line l)
+view-changed FreeSlot line l levels misses sound allowed =
+    let old = line_view levels misses in
+    view-with_at old line (changed FreeSlot (old line)) (line_view levels (misses_after FreeSlot line misses) l) l (with_at-same (λ k. (old k).copy) line l) (victim_of-without_victim line misses l) (with_at-same (λ k. (old k).register) line l) (with_at-same (λ k. (old k).way) line l)
