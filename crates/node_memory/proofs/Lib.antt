@@ -2,4 +2,6 @@ pub mod Fetched
 pub mod Fits
 pub mod Held
 pub mod LineViews
+pub mod Starting
+pub mod Touching
 pub mod Victims
