@@ -1,3 +1,4 @@
+pub mod Beginning
 pub mod Fetched
 pub mod Fits
 pub mod Held

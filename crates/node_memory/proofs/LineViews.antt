@@ -75,7 +75,7 @@ changed EmptySlot x = record x { slot = option_map (λ slot. None) x.slot }
 changed FreeSlot x = record x { slot = None }
 changed change x = x
 
-none-from : (b : Bool) (copies : List LineCopy) (slot : Option ℕ) → copy_in copies (cond b None slot) ≡ cond b None (copy_in copies slot)
+pub none-from : (b : Bool) (copies : List LineCopy) (slot : Option ℕ) → copy_in copies (cond b None slot) ≡ cond b None (copy_in copies slot)
 none-from true copies slot = refl
 none-from false copies slot = refl
 

@@ -18,7 +18,7 @@ use Rattle.miss_registers.specs.OneLine.{register_of-with_register, victim_of-wi
 use Rattle.node_memory.specs.Starting.{slots_with}
 use Rattle.node_memory.proofs.Fits.{AreFit, IsFit, fit-with_at, owned_in}
 use Rattle.node_memory.proofs.Held.{AreCopies, copy-held}
-use Rattle.node_memory.proofs.LineViews.{LineView, line_view, view-with_at, with_at-map, with_at-same}
+use Rattle.node_memory.proofs.LineViews.{LineView, line_view, none-from, view-with_at, with_at-map, with_at-same}
 use Rattle.node_memory.proofs.Victims.{IsLeaving, victim-leaves}
 
 -- ---- the line that is asked for
@@ -60,7 +60,7 @@ pub record Leaves (line victim : ℕ) (copy : LineCopy) (levels : LevelsView) (m
   pub slotless : victim_of misses victim ≡ None
   pub register : register_of misses victim ≡ None
 
-none-is : {A : Type 0} (o : Option A) → is_some o ≡ false → o ≡ None
+pub none-is : {A : Type 0} (o : Option A) → is_some o ≡ false → o ≡ None
 none-is None e = refl
 none-is (Some x) e = absurd cc
 
@@ -87,12 +87,8 @@ fit-gone copy x fit unawaited = record {
 
 -- ---- a line leaves, and another is asked for
 
-eqb-turned : (a b : ℕ) → (a == b) ≡ (b == a)
+pub eqb-turned : (a b : ℕ) → (a == b) ≡ (b == a)
 eqb-turned a b = ⊎_elim (λ e. eq-eqb a b e ∙ sym (eq-eqb b a (sym e))) (λ ne. ne_eqb a b ne ∙ sym (ne_eqb b a (λ e. ne (sym e)))) (cases_eq a b)
-
-none-from : (b : Bool) (copies : List LineCopy) (slot : Option ℕ) → copy_in copies (cond b None slot) ≡ cond b None (copy_in copies slot)
-none-from true copies slot = refl
-none-from false copies slot = refl
 
 register-kept : (line q : ℕ) (own : Bool) (b : Bool) (victim : ℕ) (bytes : List ℕ) (misses : MissView) →
     register_of (with_register line own (cond b (with_victim victim (Some bytes) misses) misses)) q ≡ with_at (register_of misses) line (Some own) q
