@@ -1,6 +1,7 @@
 pub mod Beginning
 pub mod Fetched
 pub mod Fits
+pub mod Follows
 pub mod Held
 pub mod LineViews
 pub mod Starting

@@ -2,7 +2,7 @@
 use Rattle.std.proofs.Common.{◌≡◌, ℕ, ◌/◌, ◌%◌, ◌==◌, Bool, true, false, cond, List, [], ◌∷◌, length, Option, Some, None, is_some, option_map, refl, sym, ap, ◌∙◌}
 use Rattle.std.specs.Option.{option_map_or}
 use Rattle.rsim_base.specs.declared.memory.Size.{Size}
-use Rattle.cache_sets.specs.Caches.{CacheView, slot_of, touched}
+use Rattle.cache_sets.specs.Caches.{CacheView, slot_count, slot_of, touched}
 use Rattle.cache_sets.specs.Lookups.{LooksUpAsBefore}
 use Rattle.cache_sets.specs.Sound.{IsSound}
 use Rattle.cache_sets.proofs.Calls.{set_of_slot}
@@ -14,10 +14,12 @@ use Rattle.cache_levels.specs.Levels.{LevelsView, brought, held, touched_levels,
 use Rattle.cache_levels.specs.Sound.{AreSound}
 use Rattle.cache_levels.specs.declared.levels.LineCopy.{LineCopy}
 use Rattle.cache_levels.proofs.Copying.{change_copies, copy_in}
+use Rattle.cache_levels.proofs.Standing.{slot_count-touched_line}
 use Rattle.memory_contracts.specs.Updates.{with_at}
 use Rattle.miss_registers.specs.Misses.{MissView}
 use Rattle.node_memory.specs.Nodes.{Coming}
 use Rattle.node_memory.specs.Starting.{arrive, is_due, near_if_held}
+use Rattle.node_memory.proofs.Held.{AreCopies}
 use Rattle.node_memory.proofs.LineViews.{LineView, line_view, view-with_at, with_at-same}
 
 -- every line looks the same
@@ -25,6 +27,7 @@ pub record AreAlike (old new : LevelsView) : Type 0 where
   pub second : IsSound new.second
   pub looks : LooksUpAsBefore old.second new.second
   pub copies : new.copies ≡ old.copies
+  pub slots : slot_count new.second ≡ slot_count old.second
   pub line_bytes : new.line_bytes ≡ old.line_bytes
 
 pub view-alike : (old new : LevelsView) (misses : MissView) (l : ℕ) → AreAlike old new → line_view new misses l ≡ line_view old misses l
@@ -33,14 +36,18 @@ view-alike old new misses l alike =
     let way = alike.looks.reserved l in
     λ i. record { copy = copy i; slot = (line_view old misses l).slot; register = (line_view old misses l).register; way = way i }
 
+pub copies-alike : (old new : LevelsView) → AreCopies old → AreAlike old new → AreCopies new
+copies-alike old new copies alike = record { second = alike.second; copies = ap length alike.copies ∙ (copies.copies ∙ sym alike.slots) }
+
 alike-same : (levels : LevelsView) → IsSound levels.second → AreAlike levels levels
-alike-same levels sound = record { second = sound; looks = record { slot = λ l. refl; reserved = λ l. refl }; copies = refl; line_bytes = refl }
+alike-same levels sound = record { second = sound; looks = record { slot = λ l. refl; reserved = λ l. refl }; copies = refl; slots = refl; line_bytes = refl }
 
 alike-then : (a b c : LevelsView) → AreAlike a b → AreAlike b c → AreAlike a c
 alike-then a b c first then = record {
   second = then.second;
   looks = record { slot = λ l. then.looks.slot l ∙ first.looks.slot l; reserved = λ l. then.looks.reserved l ∙ first.looks.reserved l };
   copies = then.copies ∙ first.copies;
+  slots = then.slots ∙ first.slots;
   line_bytes = then.line_bytes ∙ first.line_bytes;
 }
 
@@ -51,10 +58,10 @@ pub alike-touched : (line : ℕ) (levels : LevelsView) (first : CacheView) → I
 alike-touched line levels first sound = by (slot_of line levels.second) refl
   where
     by : (slot : Option ℕ) → slot_of line levels.second ≡ slot → AreAlike levels (record levels { first = first; second = touched_by levels.second slot })
-    by None e = record { second = sound; looks = record { slot = λ l. refl; reserved = λ l. refl }; copies = refl; line_bytes = refl }
+    by None e = record { second = sound; looks = record { slot = λ l. refl; reserved = λ l. refl }; copies = refl; slots = refl; line_bytes = refl }
     by (Some slot) e =
         let within = (IsApart-sound levels.second sound).within line slot e in
-        record { second = IsSound-touched slot levels.second sound; looks = LooksUp-touched slot levels.second (set_of_slot (length levels.second.sets) levels.second.ways slot within) sound; copies = refl; line_bytes = refl }
+        record { second = IsSound-touched slot levels.second sound; looks = LooksUp-touched slot levels.second (set_of_slot (length levels.second.sets) levels.second.ways slot within) sound; copies = refl; slots = ap (λ o. slot_count (touched_by levels.second o)) (sym e) ∙ slot_count-touched_line line levels.second; line_bytes = refl }
 
 -- ---- lines come near
 

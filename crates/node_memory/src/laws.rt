@@ -12,9 +12,4 @@ pub fn tables_follow()
     ensures wish { WishFollows }
     ensures write { WriteFollows }
     ensures held { HeldFollows }
-{
-    cache_levels::copies_follow();
-    cache_sets::look_ups_follow();
-    cache_sets::lines_are_apart();
-    miss_registers::lines_are_apart();
-}
+{}

@@ -1,5 +1,20 @@
-use Rattle.node_memory.proofs.Beginning.{begin-cases, sound-absent, sound-shared, starts-absent, starts-shared, starts-follow}
+use Rattle.node_memory.proofs.Follows.{begin-follows, held-follows, message-follows, read-follows, wishes-leave, write-follows}
 use Rattle.node_memory.proofs.laws.tables_follow.Goals as goal
 
 pub returns-clause-message : goal.returns-clause-message
-returns-clause-message c = let x = starts-follow in let y = begin-cases in let z = starts-absent in ?
+returns-clause-message c = message-follows
+
+pub returns-clause-begin : goal.returns-clause-begin
+returns-clause-begin c = begin-follows
+
+pub returns-clause-wishes : goal.returns-clause-wishes
+returns-clause-wishes c = wishes-leave
+
+pub returns-clause-read : goal.returns-clause-read
+returns-clause-read c = read-follows
+
+pub returns-clause-write : goal.returns-clause-write
+returns-clause-write c = write-follows
+
+pub returns-clause-held : goal.returns-clause-held
+returns-clause-held c = held-follows
