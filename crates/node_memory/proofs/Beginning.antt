@@ -13,9 +13,10 @@ use Rattle.memory_contracts.specs.Protocol.Awaited.{is_leaving}
 use Rattle.memory_contracts.specs.Protocol.Lines.{Copy}
 use Rattle.memory_contracts.specs.Protocol.Messages.{Put, get}
 use Rattle.memory_contracts.specs.Protocol.NodeTable.{evicted, granted, is_held, may_start, put_back}
+use Rattle.memory_contracts.specs.Said.{Mail}
 use Rattle.memory_contracts.specs.Store.{Wish}
 use Rattle.memory_contracts.specs.Updates.{with_at}
-use Rattle.miss_registers.specs.Misses.{register_of, registers_full, victim_of, with_register}
+use Rattle.miss_registers.specs.Misses.{MissView, register_of, registers_full, victim_of, with_register}
 use Rattle.node_memory.specs.Nodes.{NodeView, awaits, copy_of, kept_as, mail, most_mails}
 use Rattle.node_memory.specs.Sides as side
 use Rattle.node_memory.specs.Sides.{Begins, MayLeave, MayStart, Side, asks_for, evicts_line, side_of}
@@ -122,20 +123,20 @@ starts-shared w v shared =
 no-way : (l : ℕ) (v : NodeView) → AreFit v.levels v.misses → register_of v.misses l ≡ None → reserved_slot l v.levels.second ≡ None
 no-way l v fit none = none-is (reserved_slot l v.levels.second) (sym (fit l).way ∙ ap is_some none)
 
-few-puts : (v : NodeView) (line : ℕ) (owned : Bool) (bytes : List ℕ) → length (cond owned (Put bytes ∷ []) []) ≤ 1
-few-puts v line true bytes = omega arith
-few-puts v line false bytes = omega arith
-
-pub sound-absent : (w : Wish) (v : NodeView) (way : Way) (mark : Option ℕ) → IsSound v → length v.outbox + 2 ≤ most_mails → level.copy_of w.line v.levels ≡ None → victim_of v.misses w.line ≡ None → register_of v.misses w.line ≡ None →
-    room_for w.line v.levels.second ≡ Some way → way.line ≡ mark → AreSound (with_room w.line v.levels) →
-    IsSound (asks w.line w.own (evicts w.line (told_of v.levels.copies way.slot mark) v))
-sound-absent w v way mark sound places absent slotless none room is sound_levels = by mark is
+-- the line comes into a way, and another may leave it
+pub sound-absent : (w : Wish) (v : NodeView) (levels : LevelsView) (misses : MissView) (outbox : List Mail) → IsSound v → (absent : IsAbsent w v) →
+    levels ≡ with_room w.line v.levels → misses ≡ with_register w.line w.own (slots_with (told_of v.levels.copies absent.way.slot absent.way.line) v.misses) → AreSound levels → length outbox ≤ most_mails →
+    IsSound (record v { levels = levels; misses = misses; outbox = outbox })
+sound-absent w v levels misses outbox sound absent levels_are misses_are sound_levels room =
+    sound-with v levels misses v.wishes v.coming outbox sound sound_levels
+    (λ l. subst IsFit (sym (view-of l)) (fit-with_at (base absent.way.line) w.line (asked w.own (Some absent.way.slot) (base absent.way.line w.line)) (fit-base absent.way.line refl) (fit-line absent.way.line refl) l))
+    sound.wishes sound.coming room
   where
     old : ℕ → LineView
     old = line_view v.levels v.misses
 
     copy : LineCopy
-    copy = copy_at v.levels.copies way.slot
+    copy = copy_at v.levels.copies absent.way.slot
 
     copies : AreCopies v.levels
     copies = copies_of v.levels sound.levels
@@ -143,34 +144,41 @@ sound-absent w v way mark sound places absent slotless none room is sound_levels
     fit : AreFit v.levels v.misses
     fit = fit-sound v sound
 
-    unowned : owned_in (level.copy_of w.line v.levels) ≡ false
-    unowned = ap owned_in absent
+    base : Option ℕ → ℕ → LineView
+    base mark = without mark copy old
 
-    fits : (mark : Option ℕ) → way.line ≡ mark → ((l : ℕ) → IsFit (without mark copy old l)) → (without mark copy old w.line) ≡ old w.line → AreFit (with_room w.line v.levels) (with_register w.line w.own (slots_with (told_of v.levels.copies way.slot mark) v.misses))
-    fits mark is base same l =
-        subst IsFit (sym (view-room w.line l w.own way mark v.levels v.misses copies (no-way w.line v fit none) room is))
-        (fit-with_at (without mark copy old) w.line (asked w.own (Some way.slot) (without mark copy old w.line)) base
-        (fit-asked w.own way.slot (without mark copy old w.line) (base w.line) (ap (λ (x : LineView). x.slot) same ∙ slotless) (ap (λ (x : LineView). owned_in x.copy) same ∙ unowned)) l)
+    view-of : (l : ℕ) → line_view levels misses l ≡ with_at (base absent.way.line) w.line (asked w.own (Some absent.way.slot) (base absent.way.line w.line)) l
+    view-of l =
+        ap (λ levels. line_view levels misses l) levels_are
+        ∙ (ap (λ misses. line_view (with_room w.line v.levels) misses l) misses_are
+        ∙ view-room w.line l w.own absent.way absent.way.line v.levels v.misses copies (no-way w.line v fit absent.register) absent.room refl)
 
-    by : (mark : Option ℕ) → way.line ≡ mark → IsSound (asks w.line w.own (evicts w.line (told_of v.levels.copies way.slot mark) v))
-    by None is =
-        sound-with v (with_room w.line v.levels) (with_register w.line w.own v.misses) v.wishes v.coming (v.outbox ++ mail v w.line (get w.own) ∷ []) sound sound_levels
-        (fits None is fit refl) sound.wishes sound.coming (omega (arith, length-append v.outbox (mail v w.line (get w.own) ∷ []), places))
-    by (Some victim) is =
-        let left = leaves w.line victim way v.levels v.misses copies fit absent room is in
-        let e = told_of v.levels.copies way.slot (Some victim) in
-        let puts = map (mail v victim) (put_for e) in
-        let mails = v.outbox ++ puts in
-        let count = length-map (put_for e) (mail v victim) in
-        let few = few-puts v victim copy.owned copy.bytes in
-        let apart : with_at old victim (gone copy (old victim)) w.line ≡ old w.line = ap (λ b. cond b (gone copy (old victim)) (old w.line)) (eqb-turned w.line victim ∙ left.other) in
-        sound-with v (with_room w.line v.levels) (with_register w.line w.own (slots_with e v.misses)) v.wishes v.coming (mails ++ mail v w.line (get w.own) ∷ []) sound sound_levels
-        (fits (Some victim) is (fit-with_at old victim (gone copy (old victim)) fit (fit-gone copy (old victim) (fit victim) left.register)) apart)
-        sound.wishes sound.coming (omega (arith, length-append mails (mail v w.line (get w.own) ∷ []), length-append v.outbox puts, count, few, places))
+    leaving : (victim : ℕ) → absent.way.line ≡ Some victim → Leaves w.line victim copy v.levels v.misses
+    leaving victim is = leaves w.line victim absent.way v.levels v.misses copies fit absent.copy absent.room is
 
-pub sound-shared : (w : Wish) (v : NodeView) → IsSound v → length v.outbox + 2 ≤ most_mails → IsShared w v → AreSound (held_way w.line v.levels) → IsSound (starts_shared w v).after
-sound-shared w v sound places shared sound_levels = by (slot_of w.line v.levels.second) refl
+    fit-base : (mark : Option ℕ) → absent.way.line ≡ mark → (l : ℕ) → IsFit (base mark l)
+    fit-base None is = fit
+    fit-base (Some victim) is = fit-with_at old victim (gone copy (old victim)) fit (fit-gone copy (old victim) (fit victim) (leaving victim is).register)
+
+    -- the line is not the one that leaves
+    same : (mark : Option ℕ) → absent.way.line ≡ mark → base mark w.line ≡ old w.line
+    same None is = refl
+    same (Some victim) is = ap (λ b. cond b (gone copy (old victim)) (old w.line)) (eqb-turned w.line victim ∙ (leaving victim is).other)
+
+    fit-line : (mark : Option ℕ) → absent.way.line ≡ mark → IsFit (asked w.own (Some absent.way.slot) (base mark w.line))
+    fit-line mark is =
+        fit-asked w.own absent.way.slot (base mark w.line) (fit-base mark is w.line) (ap (λ (x : LineView). x.slot) (same mark is) ∙ absent.slot) (ap (λ (x : LineView). owned_in x.copy) (same mark is) ∙ ap owned_in absent.copy)
+
+-- the way of a shared line is held
+pub sound-shared : (w : Wish) (v : NodeView) (levels : LevelsView) (misses : MissView) (outbox : List Mail) → IsSound v → IsShared w v →
+    levels ≡ held_way w.line v.levels → misses ≡ with_register w.line w.own v.misses → AreSound levels → length outbox ≤ most_mails →
+    IsSound (record v { levels = levels; misses = misses; outbox = outbox })
+sound-shared w v levels misses outbox sound shared levels_are misses_are sound_levels room =
+    sound-with v levels misses v.wishes v.coming outbox sound sound_levels (fits (slot_of w.line v.levels.second) refl) sound.wishes sound.coming room
   where
+    old : ℕ → LineView
+    old = line_view v.levels v.misses
+
     fit : AreFit v.levels v.misses
     fit = fit-sound v sound
 
@@ -180,14 +188,12 @@ sound-shared w v sound places shared sound_levels = by (slot_of w.line v.levels.
     there : is_some (level.copy_of w.line v.levels) ≡ true
     there = ap is_some shared.copy_is
 
-    by : (slot : Option ℕ) → slot_of w.line v.levels.second ≡ slot → IsSound (starts_shared w v).after
-    by None is = let gone : is_some (slot_of w.line v.levels.second) ≡ false = ap is_some is in let here = held-copy w.line v.levels copies ∙ there in absurd cc
-    by (Some slot) is =
-        let x = line_view v.levels v.misses w.line in
-        let new = fit-asked w.own slot x (fit w.line) ((fit w.line).held there) (ap owned_in shared.copy_is ∙ shared.shared) in
-        sound-with v (held_way w.line v.levels) (with_register w.line w.own v.misses) v.wishes v.coming (v.outbox ++ mail v w.line (get w.own) ∷ []) sound sound_levels
-        (λ l. subst IsFit (sym (view-held_way w.line slot l w.own v.levels v.misses copies is)) (fit-with_at (line_view v.levels v.misses) w.line (asked w.own (Some slot) x) fit new l))
-        sound.wishes sound.coming (omega (arith, length-append v.outbox (mail v w.line (get w.own) ∷ []), places))
+    fits : (slot : Option ℕ) → slot_of w.line v.levels.second ≡ slot → AreFit levels misses
+    fits None is = let gone : is_some (slot_of w.line v.levels.second) ≡ false = ap is_some is in let here = held-copy w.line v.levels copies ∙ there in absurd cc
+    fits (Some slot) is = λ l.
+        let view = ap (λ levels. line_view levels misses l) levels_are ∙ (ap (λ misses. line_view (held_way w.line v.levels) misses l) misses_are ∙ view-held_way w.line slot l w.own v.levels v.misses copies is) in
+        let new = fit-asked w.own slot (old w.line) (fit w.line) ((fit w.line).held there) (ap owned_in shared.copy_is ∙ shared.shared) in
+        subst IsFit (sym view) (fit-with_at old w.line (asked w.own (Some slot) (old w.line)) fit new l)
 
 -- ---- the protocol sees a wish start
 

@@ -1,8 +1,7 @@
 -- What is true of a node, line by line, and that a message keeps it.
 use Rattle.std.proofs.Common.{◌≡◌, ◌≢◌, ℕ, ◌+◌, ◌==◌, ◌≤◌, ◌<◌, Bool, true, false, cond, IsTrue, List, [], ◌∷◌, ◌++◌, length, map, Option, Some, None, is_some, option_map, refl, sym, ap, subst, ◌∙◌, arith, length-append}
 use Rattle.std.specs.Option.{option_map_or}
-use Rattle.std.proofs.lemmas.Bool.{ltb-true}
-use Rattle.std.proofs.lemmas.List.{length-map}
+use Rattle.cache_sets.specs.Caches.{reserved_slot}
 use Rattle.cache_levels.specs.Levels.{LevelsView}
 use Rattle.cache_levels.specs.Sound.{AreSound}
 use Rattle.cache_levels.specs.declared.levels.LineCopy.{LineCopy}
@@ -12,13 +11,13 @@ use Rattle.memory_contracts.specs.Said.{Letter, Mail}
 use Rattle.memory_contracts.specs.Store.{Wish, most_wishes}
 use Rattle.memory_contracts.specs.Updates.{with_at}
 use Rattle.miss_registers.specs.Misses.{MissView}
-use Rattle.node_memory.specs.Nodes.{Coming, NodeView, awaits, copy_of, has_room, kept_as, mail, most_mails}
-use Rattle.node_memory.specs.Rows.{Allows, after_change, after_message, change_at, change_by, is_grant, levels_after, step_at}
+use Rattle.node_memory.specs.Nodes.{Coming, NodeView, awaits, copy_of, kept_as, most_mails}
+use Rattle.node_memory.specs.Rows.{Allows, after_message, change_at, change_by, is_grant, levels_after, misses_after}
 use Rattle.node_memory.specs.Sound.{IsSound, are_rising}
 use Rattle.node_memory.specs.declared.table.Change.{Change}
 use Rattle.node_memory.specs.declared.table.Change.TheVariants.{Nothing, Lose, Share, Fill, EmptySlot, FreeSlot}
 use Rattle.node_memory.proofs.Held.{AreCopies, copies_of, held-copy}
-use Rattle.node_memory.proofs.LineViews.{LineView, changed, kept, line_view, unowned, view-changed}
+use Rattle.node_memory.proofs.LineViews.{LineView, changed, fill_slot, kept, line_view, unowned, view-changed}
 
 abbrev pub owned_in : Option LineCopy → Bool
 owned_in copy = option_map_or (λ copy. copy.owned) copy false
@@ -113,7 +112,6 @@ fit-changed change x fit allowed = fit
 -- the code's row and the protocol's for a message do the same to a line
 pub record IsRowOf (m : Message) (x : LineView) : Type 0 where
   pub allowed : IsFit x → (is_grant m ≡ true → is_some x.register ≡ true) → AllowsLine (change_by m (kept x)) x
-  pub few : length (node_takes m (kept x) (is_some x.register)).sent ≤ 1
   pub copy : IsFit x → kept (changed (change_by m (kept x)) x) ≡ (node_takes m (kept x) (is_some x.register)).copy
   pub register : is_some (changed (change_by m (kept x)) x).register ≡ (node_takes m (kept x) (is_some x.register)).register
 
@@ -127,22 +125,22 @@ way-awaited : (x : LineView) → IsFit x → is_some x.register ≡ true → x.w
 way-awaited x fit awaited none = let there : is_some x.way ≡ true = sym fit.way ∙ awaited in let gone : is_some x.way ≡ false = ap is_some none in cc
 
 rows-held : (m : Message) (owned : Bool) (bytes : List ℕ) (slot : Option (Option (List ℕ))) (register : Option Bool) (way : Option ℕ) → IsRowOf m (held_line owned bytes slot register way)
-rows-held Inv false bytes slot register way = record { allowed = λ fit awaited. refl; few = omega arith; copy = λ fit. ap (kept_as None) (fit.held refl); register = refl }
-rows-held (Recall true) true bytes slot register way = record { allowed = λ fit awaited. refl; few = omega arith; copy = λ fit. ap (kept_as None) (fit.held refl); register = refl }
-rows-held (Recall false) true bytes slot register way = record { allowed = λ fit awaited. refl; few = omega arith; copy = λ fit. refl; register = refl }
-rows-held (Grant own new) false bytes slot register way = record { allowed = λ fit awaited. way-awaited (held_line false bytes slot register way) fit (awaited refl); few = omega arith; copy = λ fit. refl; register = refl }
-rows-held m true bytes slot register way = record { allowed = λ fit awaited. tt; few = omega arith; copy = λ fit. refl; register = refl }
-rows-held (Recall true) false bytes slot register way = record { allowed = λ fit awaited. tt; few = omega arith; copy = λ fit. refl; register = refl }
-rows-held m false bytes slot register way = record { allowed = λ fit awaited. tt; few = omega arith; copy = λ fit. refl; register = refl }
+rows-held Inv false bytes slot register way = record { allowed = λ fit awaited. refl; copy = λ fit. ap (kept_as None) (fit.held refl); register = refl }
+rows-held (Recall true) true bytes slot register way = record { allowed = λ fit awaited. refl; copy = λ fit. ap (kept_as None) (fit.held refl); register = refl }
+rows-held (Recall false) true bytes slot register way = record { allowed = λ fit awaited. refl; copy = λ fit. refl; register = refl }
+rows-held (Grant own new) false bytes slot register way = record { allowed = λ fit awaited. way-awaited (held_line false bytes slot register way) fit (awaited refl); copy = λ fit. refl; register = refl }
+rows-held m true bytes slot register way = record { allowed = λ fit awaited. tt; copy = λ fit. refl; register = refl }
+rows-held (Recall true) false bytes slot register way = record { allowed = λ fit awaited. tt; copy = λ fit. refl; register = refl }
+rows-held m false bytes slot register way = record { allowed = λ fit awaited. tt; copy = λ fit. refl; register = refl }
 
 rows-other : (m : Message) (slot : Option (Option (List ℕ))) (register : Option Bool) (way : Option ℕ) → IsRowOf m (other_line slot register way)
-rows-other (Grant own new) None register way = record { allowed = λ fit awaited. way-awaited (other_line None register way) fit (awaited refl); few = omega arith; copy = λ fit. refl; register = refl }
-rows-other (Recall true) None register way = record { allowed = λ fit awaited. tt; few = omega arith; copy = λ fit. refl; register = refl }
-rows-other m None register way = record { allowed = λ fit awaited. tt; few = omega arith; copy = λ fit. refl; register = refl }
-rows-other (Recall true) (Some None) register way = record { allowed = λ fit awaited. tt; few = omega arith; copy = λ fit. refl; register = refl }
-rows-other m (Some None) register way = record { allowed = λ fit awaited. tt; few = omega arith; copy = λ fit. refl; register = refl }
-rows-other (Recall true) (Some (Some bytes)) register way = record { allowed = λ fit awaited. tt; few = omega arith; copy = λ fit. refl; register = refl }
-rows-other m (Some (Some bytes)) register way = record { allowed = λ fit awaited. tt; few = omega arith; copy = λ fit. refl; register = refl }
+rows-other (Grant own new) None register way = record { allowed = λ fit awaited. way-awaited (other_line None register way) fit (awaited refl); copy = λ fit. refl; register = refl }
+rows-other (Recall true) None register way = record { allowed = λ fit awaited. tt; copy = λ fit. refl; register = refl }
+rows-other m None register way = record { allowed = λ fit awaited. tt; copy = λ fit. refl; register = refl }
+rows-other (Recall true) (Some None) register way = record { allowed = λ fit awaited. tt; copy = λ fit. refl; register = refl }
+rows-other m (Some None) register way = record { allowed = λ fit awaited. tt; copy = λ fit. refl; register = refl }
+rows-other (Recall true) (Some (Some bytes)) register way = record { allowed = λ fit awaited. tt; copy = λ fit. refl; register = refl }
+rows-other m (Some (Some bytes)) register way = record { allowed = λ fit awaited. tt; copy = λ fit. refl; register = refl }
 
 pub rows : (m : Message) (x : LineView) → IsRowOf m x
 rows m x = by x.copy
@@ -161,15 +159,21 @@ pub view-message : (m : Letter) (v : NodeView) → IsSound v → (is_grant m.mes
 view-message m v sound awaited l =
     view-changed (change_at m v) m.line l v.levels v.misses sound.levels (allows-from (change_at m v) m.line v.levels v.misses (copies_of v.levels sound.levels) (message-allowed m v sound awaited))
 
-pub sound-message : (m : Letter) (v : NodeView) → IsSound v → AreSound (levels_after (change_at m v) m.line v.levels) → has_room v ≡ true → (is_grant m.message ≡ true → awaits v m.line ≡ true) → IsSound (after_message m v)
-sound-message m v sound sound_levels room awaited =
-    let x = line_view v.levels v.misses m.line in
-    let new = after_message m v in
-    let fits = fit-with_at (line_view v.levels v.misses) m.line (changed (change_at m v) x) (fit-sound v sound) (fit-changed (change_at m v) x (fit-sound v sound m.line) (message-allowed m v sound awaited)) in
-    let few = (rows m.message x).few in
-    let mails = map (mail (after_change (change_at m v) m.line v) m.line) (step_at m v).sent in
-    let count = length-map (step_at m v).sent (mail (after_change (change_at m v) m.line v) m.line) in
-    let below = ltb-true (length v.outbox) most_mails room in
-    sound-with v new.levels new.misses v.wishes v.coming new.outbox sound sound_levels
-    (λ l. subst IsFit (sym (view-message m v sound awaited l)) (fits l))
-    sound.wishes sound.coming (omega (arith, length-append v.outbox mails, few, count, below))
+-- the levels and the misses are changed so, and there is room for what is sent
+pub sound-message : (m : Letter) (v : NodeView) (levels : LevelsView) (misses : MissView) (outbox : List Mail) → IsSound v → (is_grant m.message ≡ true → awaits v m.line ≡ true) →
+    levels ≡ levels_after (change_at m v) m.line v.levels → misses ≡ misses_after (change_at m v) m.line v.misses → AreSound levels → length outbox ≤ most_mails → IsSound (record v { levels = levels; misses = misses; outbox = outbox })
+sound-message m v levels misses outbox sound awaited levels_are misses_are sound_levels room =
+    let old = line_view v.levels v.misses in
+    let fits = fit-with_at old m.line (changed (change_at m v) (old m.line)) (fit-sound v sound) (fit-changed (change_at m v) (old m.line) (fit-sound v sound m.line) (message-allowed m v sound awaited)) in
+    sound-with v levels misses v.wishes v.coming outbox sound sound_levels (λ l. subst IsFit (sym (view-of l)) (fits l)) sound.wishes sound.coming room
+  where
+    view-of : (l : ℕ) → line_view levels misses l ≡ with_at (line_view v.levels v.misses) m.line (changed (change_at m v) (line_view v.levels v.misses m.line)) l
+    view-of l = ap (λ levels. line_view levels misses l) levels_are ∙ (ap (λ misses. line_view (levels_after (change_at m v) m.line v.levels) misses l) misses_are ∙ view-message m v sound awaited l)
+
+pub line_bytes-after : (change : Change) (line : ℕ) (levels : LevelsView) → (levels_after change line levels).line_bytes ≡ levels.line_bytes
+line_bytes-after (Fill own bytes) line levels = by (reserved_slot line levels.second)
+  where
+    by : (slot : Option ℕ) → (fill_slot line own bytes levels slot).line_bytes ≡ levels.line_bytes
+    by None = refl
+    by (Some slot) = refl
+line_bytes-after change line levels = refl

@@ -22,10 +22,10 @@ use Rattle.node_memory.specs.Rows.{change_at, step_at}
 use Rattle.node_memory.specs.Sides.{Begins, Side, side_of}
 use Rattle.node_memory.specs.Starting.{Begun, arrived, asks, evicts, first_begins, has_to_wait, is_absent, meets, met, starts, starts_absent, starts_shared, uncovered}
 use Rattle.node_memory.proofs.Beginning.{MayBegin, starts-follow}
-use Rattle.node_memory.proofs.Fits.{AreFit, IsFit, fit-sound, rows, view-message}
+use Rattle.node_memory.proofs.Fits.{AreFit, fit-sound, rows, view-message}
 use Rattle.node_memory.proofs.Held.{AreCopies, copies_of, held-copy, held-is}
 use Rattle.node_memory.proofs.LineViews.{LineView, changed, kept, line_view, with_at-map, with_at-same}
-use Rattle.node_memory.proofs.Touching.{AreAlike, alike-touched, arrive-alike, copies-alike, view-alike, view-written, written_view}
+use Rattle.node_memory.proofs.Touching.{AreAlike, alike-touched, arrive-alike, copies-alike, fit-alike, view-alike, view-written, written_view}
 
 -- ---- a message
 
@@ -119,7 +119,7 @@ begin-follows now v sound =
     let alike = arrive-alike v.latency now v.coming v.levels sound.levels.second in
     let copies = copies-alike v.levels u.levels (copies_of v.levels sound.levels) alike in
     first-follows now v.wishes (uncovered v.misses v.wishes) u (side_of v) (side-alike v u.levels alike) copies
-    (λ l. subst IsFit (sym (view-alike v.levels u.levels v.misses l alike)) (fit-sound v sound l))
+    (fit-alike v.levels u.levels v.misses alike (fit-sound v sound))
     (λ w rest is. uncovered-among v.misses v.wishes w rest is)
 
 -- ---- wishes only leave

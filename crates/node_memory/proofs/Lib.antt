@@ -7,3 +7,4 @@ pub mod LineViews
 pub mod Starting
 pub mod Touching
 pub mod Victims
+pub mod Wishing

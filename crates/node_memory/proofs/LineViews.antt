@@ -83,7 +83,7 @@ lost-copy : (line l : ℕ) (levels : LevelsView) → AreSound levels → level.c
 lost-copy line l levels sound = ap (copy_in levels.copies) ((LooksUp-dropped line levels.second sound.second).slot l) ∙ none-from (l == line) levels.copies (slot_of l levels.second)
 
 -- the levels after a fill, by the slot that is reserved
-abbrev fill_slot : ℕ → Bool → List ℕ → LevelsView → Option ℕ → LevelsView
+abbrev pub fill_slot : ℕ → Bool → List ℕ → LevelsView → Option ℕ → LevelsView
 fill_slot line own bytes levels slot =
     option_map_or
     (λ s. record levels {

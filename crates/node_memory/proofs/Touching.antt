@@ -1,5 +1,5 @@
 -- Changes of recency, which no line sees: a line comes near, is read or written.
-use Rattle.std.proofs.Common.{◌≡◌, ℕ, ◌/◌, ◌%◌, ◌==◌, Bool, true, false, cond, List, [], ◌∷◌, length, Option, Some, None, is_some, option_map, refl, sym, ap, ◌∙◌}
+use Rattle.std.proofs.Common.{◌≡◌, ℕ, ◌/◌, ◌%◌, ◌==◌, Bool, true, false, cond, List, [], ◌∷◌, length, Option, Some, None, is_some, option_map, refl, sym, ap, subst, ◌∙◌}
 use Rattle.std.specs.Option.{option_map_or}
 use Rattle.rsim_base.specs.declared.memory.Size.{Size}
 use Rattle.cache_sets.specs.Caches.{CacheView, slot_count, slot_of, touched}
@@ -17,8 +17,10 @@ use Rattle.cache_levels.proofs.Copying.{change_copies, copy_in}
 use Rattle.cache_levels.proofs.Standing.{slot_count-touched_line}
 use Rattle.memory_contracts.specs.Updates.{with_at}
 use Rattle.miss_registers.specs.Misses.{MissView}
-use Rattle.node_memory.specs.Nodes.{Coming}
+use Rattle.node_memory.specs.Nodes.{Coming, NodeView, line_at}
+use Rattle.node_memory.specs.Sound as node
 use Rattle.node_memory.specs.Starting.{arrive, is_due, near_if_held}
+use Rattle.node_memory.proofs.Fits.{AreFit, IsFit, fit-sound, fit-with_at, sound-with}
 use Rattle.node_memory.proofs.Held.{AreCopies}
 use Rattle.node_memory.proofs.LineViews.{LineView, line_view, view-with_at, with_at-same}
 
@@ -100,3 +102,28 @@ view-written a n value levels misses l sound =
     view-alike new (touched_levels line new) misses l (alike-touched line new (touched_line line new.first) sound.second)
     ∙ view-with_at old line (written_view (a % levels.line_bytes) n value (old line)) (line_view new misses l) l
     (change_copies IsApart-sound line (with_bytes (a % levels.line_bytes) n value) levels sound l) (with_at-same (λ k. (old k).slot) line l) (with_at-same (λ k. (old k).register) line l) (with_at-same (λ k. (old k).way) line l)
+
+-- ---- what is true of a node stays true
+
+pub fit-alike : (old new : LevelsView) (misses : MissView) → AreAlike old new → AreFit old misses → AreFit new misses
+fit-alike old new misses alike fit l = subst IsFit (sym (view-alike old new misses l alike)) (fit l)
+
+pub sound-alike : (v : NodeView) (levels : LevelsView) → node.IsSound v → AreAlike v.levels levels → AreSound levels → node.IsSound (record v { levels = levels })
+sound-alike v levels sound alike sound_levels =
+    sound-with v levels v.misses v.wishes v.coming v.outbox sound sound_levels (fit-alike v.levels levels v.misses alike (fit-sound v sound)) sound.wishes sound.coming sound.outbox
+
+fit-written : (at : ℕ) (n : Size) (value : ℕ) (x : LineView) → IsFit x → IsFit (written_view at n value x)
+fit-written at n value x fit = by x.copy fit
+  where
+    by : (copy : Option LineCopy) → IsFit (record x { copy = copy }) → IsFit (record x { copy = option_map (with_bytes at n value) copy })
+    by None fit = fit
+    by (Some copy) fit = record { way = fit.way; held = fit.held; awaited = fit.awaited; unowned = fit.unowned }
+
+pub sound-written : (a : ℕ) (n : Size) (value : ℕ) (v : NodeView) (levels : LevelsView) → node.IsSound v → levels ≡ touched_levels (line_at v a) (written a n value v.levels) → AreSound levels → node.IsSound (record v { levels = levels })
+sound-written a n value v levels sound is sound_levels =
+    let line = line_at v a in
+    let old = line_view v.levels v.misses in
+    let new = written_view (a % v.levels.line_bytes) n value (old line) in
+    let fits = fit-with_at old line new (fit-sound v sound) (fit-written (a % v.levels.line_bytes) n value (old line) (fit-sound v sound line)) in
+    sound-with v levels v.misses v.wishes v.coming v.outbox sound sound_levels
+    (λ l. subst IsFit (sym (ap (λ levels. line_view levels v.misses l) is ∙ view-written a n value v.levels v.misses l sound.levels)) (fits l)) sound.wishes sound.coming sound.outbox

@@ -1,15 +1,17 @@
 // The memory of a node.
-ghost use Rattle.std.specs.Prelude.{◌≡◌, ◌%◌, ◌<◌, ◌++◌, IfOk, IfSome, OnSome, false, true, length, option_map, slice_get};
+ghost use Rattle.std.specs.Prelude.{◌≡◌, ◌+◌, ◌%◌, ◌<◌, ◌≤◌, ◌++◌, ◌∷◌, [], IfOk, IfSome, IsTrue, None, false, true, length, option_map, slice_get};
 ghost use Rattle.arrayvec.specs.ArrayVec.{array_vec_len};
 ghost use Rattle.rsim_base.specs.Bytes.{count_of};
 ghost use Rattle.machine_config.specs.Allowed.{IsAllowed};
 ghost use Rattle.memory_contracts.specs.Said.{letter_of, said, told};
 ghost use Rattle.memory_contracts.specs.Parts.{wish_of};
-ghost use Rattle.cache_levels.specs.Levels.{near, owned};
+ghost use Rattle.cache_levels.specs.Levels.{held, near, owned};
+ghost use Rattle.miss_registers.specs.Misses.{register_of, registers_full, with_register};
 ghost use Rattle.node_memory.specs.Nodes.{left_from};
 ghost use Rattle.node_memory.specs.Starting.{lines_of};
 ghost use Rattle.node_memory.specs.Noted.{node_with, posts_for};
 ghost use Rattle.node_memory.specs.Sound.{AreBefore, IsSound};
+ghost use Rattle.node_memory.specs.declared.word.Word.TheVariants.{Get};
 
 use crate::coming::Coming;
 use crate::lines::Lines;
@@ -21,6 +23,7 @@ use crate::word::Word;
 use cache_levels::Evicted;
 use machine_config::Config;
 use memory_contracts::{LostList, Message, Wanted};
+use miss_registers::MissRegisters;
 use rsim_base::{Addr, Line, NoMemory, Node, Size, line_of};
 use std::alloc::Global;
 
@@ -44,7 +47,7 @@ impl NodeMemory {
     ghost use Rattle.node_memory.specs.NodeViews.{node_of};
     ghost use Rattle.node_memory.specs.Nodes.{after_read, after_wish, after_write, awaits, copy_of, empty_node, has_room, line_at, read_of, takes_wish, without_first_mail};
     ghost use Rattle.node_memory.specs.Rows.{after_message, is_grant, lost_at};
-    ghost use Rattle.node_memory.specs.Starting.{arrived, begins, first_begins, has_to_wait, meets, starts, uncovered};
+    ghost use Rattle.node_memory.specs.Starting.{arrived, begins, first_begins, has_to_wait, meets, starts, starts_shared, uncovered};
 
     /// Node `p` at first: its caches are empty, it awaits and wishes nothing, and has nothing to send.
     ///
@@ -165,15 +168,38 @@ impl NodeMemory {
         ensures lost { lost.new.items ≡ lost.old.items ++ left_from (node_of self.old).at (starts (wish_of wish) (node_of self.old)).lost }
     {
         if self.lines.levels.hold(wish.line) {
-            self.lines.levels.hold_way(wish.line);
-        } else {
-            let Some(evicted) = self.lines.make_room(wish.line) else {
-                return false;
-            };
-            put_back(&mut self.outbox, lost, self.at, &evicted);
+            self.start_shared(wish);
+            return true;
         }
-        let _ = self.lines.misses.begin(wish.line, wish.own);
-        self.outbox.push(wish.line, Word::Get { own: wish.own });
+        self.start_absent(wish, lost)
+    }
+
+    // Starts a wish to own a line that is shared.
+    fn start_shared(&mut self, wish: Wanted)
+        requires unmet { meets wish.own (copy_of (node_of self.old) wish.line.0) ≡ false }
+        requires ready { has_to_wait (wish_of wish) (node_of self.old) ≡ false }
+        requires held { IsTrue (held wish.line.0 (node_of self.old).levels) }
+        ensures { node_of self.new ≡ (starts_shared (wish_of wish) (node_of self.old)).after }
+    {
+        self.lines.levels.hold_way(wish.line);
+        ask(&mut self.lines.misses, &mut self.outbox, wish);
+    }
+
+    // Starts a wish for a line that is absent.
+    fn start_absent(&mut self, wish: Wanted, lost: &mut LostList) -> bool
+        requires place { array_vec_len lost.old < 128 }
+        requires unmet { meets wish.own (copy_of (node_of self.old) wish.line.0) ≡ false }
+        requires ready { has_to_wait (wish_of wish) (node_of self.old) ≡ false }
+        requires absent { held wish.line.0 (node_of self.old).levels ≡ false }
+        ensures answer { result ≡ (starts (wish_of wish) (node_of self.old)).answer }
+        ensures after { node_of self.new ≡ (starts (wish_of wish) (node_of self.old)).after }
+        ensures lost { lost.new.items ≡ lost.old.items ++ left_from (node_of self.old).at (starts (wish_of wish) (node_of self.old)).lost }
+    {
+        let Some(evicted) = self.lines.make_room(wish.line) else {
+            return false;
+        };
+        put_back(&mut self.outbox, lost, self.at, &evicted);
+        ask(&mut self.lines.misses, &mut self.outbox, wish);
         true
     }
 
@@ -273,6 +299,7 @@ fn put_back(outbox: &mut Outbox, lost: &mut LostList, p: Node, evicted: &Evicted
     requires room { length outbox.old.posts.items < 1024 }
     ensures lost { lost.new.items ≡ lost.old.items ++ left_from p.0 (lines_of evicted.now.line) }
     ensures posts { outbox.new.posts.items ≡ outbox.old.posts.items ++ posts_for evicted.now }
+    ensures few { length outbox.new.posts.items ≤ length outbox.old.posts.items + 1 }
 {
     let Some(line) = evicted.line else { return };
     if evicted.owned {
@@ -284,4 +311,16 @@ fn put_back(outbox: &mut Outbox, lost: &mut LostList, p: Node, evicted: &Evicted
         );
     }
     lost.push((p, line));
+}
+
+// Opens a register for a line that is wished, and asks its home for it.
+fn ask(misses: &mut MissRegisters, outbox: &mut Outbox, wish: Wanted)
+    requires none { register_of misses.old wish.line.0 ≡ None }
+    requires free { registers_full misses.old ≡ false }
+    requires room { length outbox.old.posts.items < 1024 }
+    ensures misses { misses.new ≡ with_register wish.line.0 wish.own misses.old }
+    ensures posts { outbox.new.posts.items ≡ outbox.old.posts.items ++ record { line = wish.line; word = Get wish.own } ∷ [] }
+{
+    let _ = misses.begin(wish.line, wish.own);
+    outbox.push(wish.line, Word::Get { own: wish.own });
 }
