@@ -1,13 +1,16 @@
 -- A wish that need not wait starts: what is true of a node stays true, and the protocol sees one wish start.
 use Rattle.std.proofs.Common.{◌≡◌, ℕ, suc, ◌+◌, ◌≤◌, ◌<◌, ◌==◌, Bool, true, false, not, ◌&&◌, ◌||◌, cond, nat_lt, List, [], ◌∷◌, ◌++◌, length, map, Option, Some, None, ◌⊎◌, inl, inr, ⊎_elim, is_some, option_map, refl, sym, ap, subst, ◌∙◌, arith, length-append}
 use Rattle.std.specs.List.{Contains}
+use Rattle.std.specs.Option.{IfSome}
 use Rattle.std.proofs.lemmas.Bool.{ltb-false}
+use Rattle.rsim_base.specs.declared.memory.Line.{Line}
 use Rattle.std.proofs.lemmas.List.{length-map}
 use Rattle.cache_sets.specs.Caches.{reserved_slot, room_for, slot_of, told}
 use Rattle.cache_sets.specs.Ways.{Way}
 use Rattle.cache_levels.specs.Levels as level
-use Rattle.cache_levels.specs.Levels.{LevelsView, copy_at, evicted_as, held_way, with_room}
+use Rattle.cache_levels.specs.Levels.{LevelsView, copy_at, evicted_as, held, held_way, with_room}
 use Rattle.cache_levels.specs.Sound.{AreSound}
+use Rattle.cache_levels.specs.declared.levels.Evicted.{Evicted}
 use Rattle.cache_levels.specs.declared.levels.LineCopy.{LineCopy}
 use Rattle.memory_contracts.specs.Protocol.Awaited.{is_leaving}
 use Rattle.memory_contracts.specs.Protocol.Lines.{Copy}
@@ -25,7 +28,7 @@ use Rattle.node_memory.specs.Starting.{Begun, asks, evicts, has_to_wait, is_abse
 use Rattle.node_memory.proofs.Fits.{AreFit, IsFit, fit-sound, fit-with_at, owned_in, sound-with}
 use Rattle.node_memory.proofs.Held.{AreCopies, absent-is, copies_of, held-copy, held-is, leaving-is, meets-is}
 use Rattle.node_memory.proofs.LineViews.{LineView, kept, line_view, with_at-map, with_at-same}
-use Rattle.node_memory.proofs.Starting.{Leaves, asked, eqb-turned, fit-asked, fit-gone, gone, leaves, none-is, told_of, view-held_way, view-room, without}
+use Rattle.node_memory.proofs.Starting.{Leaves, asked, eqb-turned, fit-asked, fit-gone, gone, leaves, none-is, room_at, told_of, view-held_way, view-room, without}
 
 -- ---- which wishes start
 
@@ -105,6 +108,25 @@ begin-cases w v may = by (level.copy_of w.line v.levels) (victim_of v.misses w.l
         absurd cc
     by (Some copy) slot is slot_is = inr (shared copy copy.owned w.own refl refl is (sym (ap (λ o. meets w.own (kept_as o (victim_of v.misses w.line))) is) ∙ may.unmet))
 
+pub begin-absent : (w : Wish) (v : NodeView) → AreCopies v.levels → MayBegin w v → held w.line v.levels ≡ false → IsAbsent w v
+begin-absent w v copies may absent =
+    ⊎_elim (λ is. is)
+    (λ shared.
+    let there : is_some (level.copy_of w.line v.levels) ≡ true = ap is_some shared.copy_is in
+    let here = held-copy w.line v.levels copies in
+    absurd cc)
+    (begin-cases w v may)
+
+pub begin-shared : (w : Wish) (v : NodeView) → AreCopies v.levels → MayBegin w v → held w.line v.levels ≡ true → IsShared w v
+begin-shared w v copies may there =
+    ⊎_elim
+    (λ absent.
+    let gone : is_some (level.copy_of w.line v.levels) ≡ false = ap is_some absent.copy in
+    let here = held-copy w.line v.levels copies in
+    absurd cc)
+    (λ is. is)
+    (begin-cases w v may)
+
 -- ---- what a start is
 
 pub starts-absent : (w : Wish) (v : NodeView) (absent : IsAbsent w v) → starts w v ≡ starts_absent w (Some (told_of v.levels.copies absent.way.slot absent.way.line)) v
@@ -117,6 +139,22 @@ pub starts-shared : (w : Wish) (v : NodeView) → IsShared w v → starts w v �
 starts-shared w v shared =
     let is : is_absent (copy_of v w.line) ≡ false = absent-is (level.copy_of w.line v.levels) (victim_of v.misses w.line) ∙ ap (λ o. not (is_some o) && not (is_some (victim_of v.misses w.line))) shared.copy_is in
     ap (λ b. cond b (starts_absent w (level.evicted w.line v.levels) v) (starts_shared w v)) is
+
+-- what is told of the line that leaves
+pub evicted-absent : (w : Wish) (v : NodeView) (absent : IsAbsent w v) → level.evicted w.line v.levels ≡ Some (told_of v.levels.copies absent.way.slot absent.way.line)
+evicted-absent w v absent = ap (option_map (λ way. evicted_as v.levels.copies (told way))) absent.room
+
+pub line_bytes-room : (w : Wish) (v : NodeView) → IsAbsent w v → (with_room w.line v.levels).line_bytes ≡ v.levels.line_bytes
+line_bytes-room w v absent = ap (λ o. (room_at w.line v.levels o).line_bytes) absent.room
+
+-- it has no slot yet
+pub evicted-slotless : (w : Wish) (v : NodeView) → AreCopies v.levels → AreFit v.levels v.misses → IsAbsent w v →
+    IfSome (level.evicted w.line v.levels) (λ e. IfSome e.line (λ (victim : Line). victim_of v.misses victim.0 ≡ None))
+evicted-slotless w v copies fit absent = subst (λ o. IfSome o (λ (e : Evicted). IfSome e.line (λ (victim : Line). victim_of v.misses victim.0 ≡ None))) (sym (evicted-absent w v absent)) (by absent.way.line refl)
+  where
+    by : (mark : Option ℕ) → absent.way.line ≡ mark → IfSome (told_of v.levels.copies absent.way.slot mark).line (λ (victim : Line). victim_of v.misses victim.0 ≡ None)
+    by None is = tt
+    by (Some victim) is = (leaves w.line victim absent.way v.levels v.misses copies fit absent.copy absent.room is).slotless
 
 -- ---- what is true of a node stays true
 

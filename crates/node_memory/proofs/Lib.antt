@@ -4,6 +4,7 @@ pub mod Fits
 pub mod Follows
 pub mod Held
 pub mod LineViews
+pub mod Mails
 pub mod Starting
 pub mod Touching
 pub mod Victims

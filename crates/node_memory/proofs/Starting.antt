@@ -101,7 +101,7 @@ victim-kept q true victim bytes misses = victim_of-with_victim victim (Some byte
 victim-kept q false victim bytes misses = with_at-same (victim_of misses) victim q
 
 -- the levels with room, by the way that there is
-abbrev room_at : ℕ → LevelsView → Option Way → LevelsView
+abbrev pub room_at : ℕ → LevelsView → Option Way → LevelsView
 room_at line levels room = option_map_or (λ way. record levels { first = without_victim way.line levels.first; second = with_reserved line levels.second }) room levels
 
 pub view-room : (line l : ℕ) (own : Bool) (way : Way) (mark : Option ℕ) (levels : LevelsView) (misses : MissView) → AreCopies levels →
