@@ -5,6 +5,7 @@ pub mod Follows
 pub mod Held
 pub mod LineViews
 pub mod Mails
+pub mod Reading
 pub mod Starting
 pub mod Touching
 pub mod Victims

@@ -112,6 +112,9 @@ pub sound-alike : (v : NodeView) (levels : LevelsView) → node.IsSound v → Ar
 sound-alike v levels sound alike sound_levels =
     sound-with v levels v.misses v.wishes v.coming v.outbox sound sound_levels (fit-alike v.levels levels v.misses alike (fit-sound v sound)) sound.wishes sound.coming sound.outbox
 
+pub sound-touched : (line : ℕ) (v : NodeView) (levels : LevelsView) → node.IsSound v → levels ≡ touched_levels line v.levels → AreSound levels → node.IsSound (record v { levels = levels })
+sound-touched line v levels sound is sound_levels = sound-alike v levels sound (subst (λ (levels : LevelsView). AreAlike v.levels levels) (sym is) (alike-touched line v.levels (touched_line line v.levels.first) sound.levels.second)) sound_levels
+
 fit-written : (at : ℕ) (n : Size) (value : ℕ) (x : LineView) → IsFit x → IsFit (written_view at n value x)
 fit-written at n value x fit = by x.copy fit
   where
