@@ -1,4 +1,5 @@
 pub mod Beginning
+pub mod Empty
 pub mod Fetched
 pub mod Fits
 pub mod Follows
