@@ -1,10 +1,9 @@
 -- A wish that need not wait starts: what is true of a node stays true, and the protocol sees one wish start.
-use Rattle.std.proofs.Common.{◌≡◌, ℕ, suc, ◌+◌, ◌≤◌, ◌<◌, ◌==◌, Bool, true, false, not, ◌&&◌, ◌||◌, cond, nat_lt, List, [], ◌∷◌, ◌++◌, length, map, Option, Some, None, ◌⊎◌, inl, inr, ⊎_elim, is_some, option_map, refl, sym, ap, subst, ◌∙◌, arith, length-append}
+use Rattle.std.proofs.Common.{◌≡◌, ℕ, ◌+◌, ◌≤◌, ◌==◌, Bool, true, false, not, ◌&&◌, ◌||◌, cond, nat_lt, List, [], ◌∷◌, ◌++◌, length, map, Option, Some, None, ◌⊎◌, inl, inr, ⊎_elim, is_some, option_map, refl, sym, ap, subst, ◌∙◌}
 use Rattle.std.specs.List.{Contains}
 use Rattle.std.specs.Option.{IfSome}
 use Rattle.std.proofs.lemmas.Bool.{ltb-false}
 use Rattle.rsim_base.specs.declared.memory.Line.{Line}
-use Rattle.std.proofs.lemmas.List.{length-map}
 use Rattle.cache_sets.specs.Caches.{reserved_slot, room_for, slot_of, told}
 use Rattle.cache_sets.specs.Ways.{Way}
 use Rattle.cache_levels.specs.Levels as level
@@ -15,18 +14,17 @@ use Rattle.cache_levels.specs.declared.levels.LineCopy.{LineCopy}
 use Rattle.memory_contracts.specs.Protocol.Awaited.{is_leaving}
 use Rattle.memory_contracts.specs.Protocol.Lines.{Copy}
 use Rattle.memory_contracts.specs.Protocol.Messages.{Put, get}
-use Rattle.memory_contracts.specs.Protocol.NodeTable.{evicted, granted, is_held, may_start, put_back}
+use Rattle.memory_contracts.specs.Protocol.NodeTable.{evicted, granted, may_start, put_back}
 use Rattle.memory_contracts.specs.Said.{Mail}
 use Rattle.memory_contracts.specs.Store.{Wish}
 use Rattle.memory_contracts.specs.Updates.{with_at}
 use Rattle.miss_registers.specs.Misses.{MissView, register_of, registers_full, victim_of, with_register}
 use Rattle.node_memory.specs.Nodes.{NodeView, awaits, copy_of, kept_as, mail, most_mails}
-use Rattle.node_memory.specs.Sides as side
-use Rattle.node_memory.specs.Sides.{Begins, MayLeave, MayStart, Side, asks_for, evicts_line, side_of}
+use Rattle.node_memory.specs.Sides.{Begins, MayStart, asks_for, evicts_line, side_of}
 use Rattle.node_memory.specs.Sound.{IsSound}
-use Rattle.node_memory.specs.Starting.{Begun, asks, evicts, has_to_wait, is_absent, lacks_way, lines_of, meets, put_for, slots_with, starts, starts_absent, starts_shared}
+use Rattle.node_memory.specs.Starting.{Begun, asks, evicts, has_to_wait, is_absent, lacks_way, meets, slots_with, starts, starts_absent, starts_shared}
 use Rattle.node_memory.proofs.Fits.{AreFit, IsFit, fit-sound, fit-with_at, owned_in, sound-with}
-use Rattle.node_memory.proofs.Held.{AreCopies, absent-is, copies_of, held-copy, held-is, leaving-is, meets-is}
+use Rattle.node_memory.proofs.Held.{AreCopies, absent-is, copies_of, held-copy, held-is, leaving-is}
 use Rattle.node_memory.proofs.LineViews.{LineView, kept, line_view, with_at-map, with_at-same}
 use Rattle.node_memory.proofs.Starting.{Leaves, asked, eqb-turned, fit-asked, fit-gone, gone, leaves, none-is, room_at, told_of, view-held_way, view-room, without}
 

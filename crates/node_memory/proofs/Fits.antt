@@ -1,21 +1,21 @@
 -- What is true of a node, line by line, and that a message keeps it.
-use Rattle.std.proofs.Common.{◌≡◌, ◌≢◌, ℕ, ◌+◌, ◌==◌, ◌≤◌, ◌<◌, Bool, true, false, cond, IsTrue, List, [], ◌∷◌, ◌++◌, length, map, Option, Some, None, is_some, option_map, refl, sym, ap, subst, ◌∙◌, arith, length-append}
+use Rattle.std.proofs.Common.{◌≡◌, ◌≢◌, ℕ, ◌==◌, ◌≤◌, Bool, true, false, cond, List, length, Option, Some, None, is_some, option_map, refl, sym, ap, subst, ◌∙◌}
 use Rattle.std.specs.Option.{option_map_or}
 use Rattle.cache_sets.specs.Caches.{reserved_slot}
 use Rattle.cache_levels.specs.Levels.{LevelsView}
 use Rattle.cache_levels.specs.Sound.{AreSound}
 use Rattle.cache_levels.specs.declared.levels.LineCopy.{LineCopy}
-use Rattle.memory_contracts.specs.Protocol.Messages.{Message, Inv, Recall, Grant, PutAck}
+use Rattle.memory_contracts.specs.Protocol.Messages.{Message, Inv, Recall, Grant}
 use Rattle.memory_contracts.specs.Protocol.NodeTable.{node_takes}
 use Rattle.memory_contracts.specs.Said.{Letter, Mail}
 use Rattle.memory_contracts.specs.Store.{Wish, most_wishes}
 use Rattle.memory_contracts.specs.Updates.{with_at}
 use Rattle.miss_registers.specs.Misses.{MissView}
-use Rattle.node_memory.specs.Nodes.{Coming, NodeView, awaits, copy_of, kept_as, most_mails}
+use Rattle.node_memory.specs.Nodes.{Coming, NodeView, awaits, kept_as, most_mails}
 use Rattle.node_memory.specs.Rows.{Allows, after_message, change_at, change_by, is_grant, levels_after, misses_after}
 use Rattle.node_memory.specs.Sound.{IsSound, are_rising}
 use Rattle.node_memory.specs.declared.table.Change.{Change}
-use Rattle.node_memory.specs.declared.table.Change.TheVariants.{Nothing, Lose, Share, Fill, EmptySlot, FreeSlot}
+use Rattle.node_memory.specs.declared.table.Change.TheVariants.{Lose, Share, Fill, EmptySlot, FreeSlot}
 use Rattle.node_memory.proofs.Held.{AreCopies, copies_of, held-copy}
 use Rattle.node_memory.proofs.LineViews.{LineView, changed, fill_slot, kept, line_view, unowned, view-changed}
 

@@ -1,5 +1,5 @@
 -- What the calls of a node mean to the protocol.
-use Rattle.std.proofs.Common.{◌≡◌, ℕ, suc, ◌+◌, ◌<◌, ◌/◌, ◌%◌, ◌==◌, Bool, true, false, not, ◌&&◌, cond, List, [], ◌∷◌, ◌++◌, length, map, Option, Some, None, inl, inr, is_some, option_map, refl, sym, ap, subst, ◌∙◌, arith}
+use Rattle.std.proofs.Common.{◌≡◌, ℕ, suc, ◌%◌, Bool, true, false, cond, List, [], ◌∷◌, ◌++◌, map, Option, Some, None, inl, inr, is_some, option_map, refl, sym, ap, subst, ◌∙◌, arith}
 use Rattle.std.specs.List.{Contains}
 use Rattle.std.specs.Option.{option_map_or}
 use Rattle.rsim_base.specs.declared.memory.Line.{Line}
@@ -10,21 +10,20 @@ use Rattle.cache_levels.specs.Levels.{LevelsView, near, owned, touched_levels, t
 use Rattle.cache_levels.specs.declared.levels.Evicted.{Evicted}
 use Rattle.cache_levels.specs.declared.levels.LineCopy.{LineCopy}
 use Rattle.memory_contracts.specs.Protocol.Content.{bytes_of}
-use Rattle.memory_contracts.specs.Protocol.Lines.{Copy, Owned}
+use Rattle.memory_contracts.specs.Protocol.Lines.{Owned}
 use Rattle.memory_contracts.specs.Protocol.NodeTable.{granted}
-use Rattle.memory_contracts.specs.Said.{Letter}
 use Rattle.memory_contracts.specs.Store.{IsLeftOf, Wish}
 use Rattle.memory_contracts.specs.Updates.{with_at}
 use Rattle.miss_registers.specs.Misses.{MissView, covers, register_of, victim_of}
-use Rattle.node_memory.specs.Laws.{BeginFollows, HeldFollows, MessageFollows, ReadFollows, WishFollows, WishesLeave, WriteFollows, with_written}
-use Rattle.node_memory.specs.Nodes.{NodeView, after_read, after_wish, after_write, awaits, copy_of, is_covered, kept_as, line_at, mail, takes_wish}
+use Rattle.node_memory.specs.Laws.{BeginFollows, HeldFollows, MessageFollows, ReadFollows, WishesLeave, WriteFollows}
+use Rattle.node_memory.specs.Nodes.{NodeView, awaits, copy_of, kept_as, line_at, mail}
 use Rattle.node_memory.specs.Rows.{change_at, step_at}
 use Rattle.node_memory.specs.Sides.{Begins, Side, side_of}
 use Rattle.node_memory.specs.Starting.{Begun, arrived, asks, evicts, first_begins, has_to_wait, is_absent, meets, met, starts, starts_absent, starts_shared, uncovered}
 use Rattle.node_memory.proofs.Beginning.{MayBegin, starts-follow}
 use Rattle.node_memory.proofs.Fits.{AreFit, fit-sound, rows, view-message}
 use Rattle.node_memory.proofs.Held.{AreCopies, copies_of, held-copy, held-is}
-use Rattle.node_memory.proofs.LineViews.{LineView, changed, kept, line_view, with_at-map, with_at-same}
+use Rattle.node_memory.proofs.LineViews.{LineView, changed, kept, line_view, with_at-map}
 use Rattle.node_memory.proofs.Touching.{AreAlike, alike-touched, arrive-alike, copies-alike, fit-alike, view-alike, view-written, written_view}
 
 -- ---- a message

@@ -1,8 +1,8 @@
 -- What a node has of one line, and how a message changes it.
-use Rattle.std.proofs.Common.{◌≡◌, ◌≢◌, ℕ, ◌==◌, Bool, true, false, cond, IsTrue, List, slice_set, Option, Some, None, is_some, option_map, refl, sym, ap, ◌∙◌, ⊎_elim}
+use Rattle.std.proofs.Common.{◌≡◌, ◌≢◌, ℕ, ◌==◌, Bool, true, false, cond, List, slice_set, Option, Some, None, option_map, refl, ap, ◌∙◌}
 use Rattle.std.specs.Option.{option_map_or}
 use Rattle.std.proofs.lemmas.Bool.{eqb-true}
-use Rattle.cache_sets.specs.Caches.{dropped, filled, reserved_slot, slot_of}
+use Rattle.cache_sets.specs.Caches.{filled, reserved_slot, slot_of}
 use Rattle.cache_sets.proofs.Looking.{IsApart-sound, LooksUp-dropped, LooksUp-filled}
 use Rattle.cache_levels.specs.Levels as level
 use Rattle.cache_levels.specs.Levels.{LevelsView, filled_line, lost, shared, with_line}
@@ -13,7 +13,7 @@ use Rattle.memory_contracts.specs.Protocol.Lines.{Copy}
 use Rattle.memory_contracts.specs.Updates.{with_at}
 use Rattle.miss_registers.specs.Misses.{MissView, register_of, victim_of}
 use Rattle.miss_registers.specs.OneLine.{register_of-without_register, victim_of-with_emptied, victim_of-without_victim}
-use Rattle.node_memory.specs.Nodes.{NodeView, kept_as}
+use Rattle.node_memory.specs.Nodes.{kept_as}
 use Rattle.node_memory.specs.Rows.{Allows, levels_after, misses_after}
 use Rattle.node_memory.specs.declared.table.Change.{Change}
 use Rattle.node_memory.specs.declared.table.Change.TheVariants.{Nothing, Lose, Share, Fill, EmptySlot, FreeSlot}

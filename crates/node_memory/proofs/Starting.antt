@@ -1,7 +1,7 @@
 -- A wish starts: its line has a way and a register, and another line may leave for it.
-use Rattle.std.proofs.Common.{◌≡◌, ℕ, ◌==◌, Bool, true, false, cond, List, [], ◌∷◌, Option, Some, None, is_some, option_map, refl, sym, ap, subst, ◌∙◌, ⊎_elim}
+use Rattle.std.proofs.Common.{◌≡◌, ℕ, ◌==◌, Bool, true, false, cond, List, Option, Some, None, is_some, option_map, refl, sym, ap, ◌∙◌, ⊎_elim}
 use Rattle.std.specs.Option.{option_map_or}
-use Rattle.std.proofs.lemmas.Bool.{cases_eq, eq-eqb, eqb-true, ne_eqb}
+use Rattle.std.proofs.lemmas.Bool.{cases_eq, eq-eqb, ne_eqb}
 use Rattle.rsim_base.specs.declared.memory.Line.{Line}
 use Rattle.cache_sets.specs.Caches.{reserved_slot, room_for, slot_of, with_reserved}
 use Rattle.cache_sets.specs.Lookups.{is_victim}
@@ -16,10 +16,10 @@ use Rattle.memory_contracts.specs.Updates.{with_at}
 use Rattle.miss_registers.specs.Misses.{MissView, register_of, victim_of, with_register, with_victim}
 use Rattle.miss_registers.specs.OneLine.{register_of-with_register, victim_of-with_victim}
 use Rattle.node_memory.specs.Starting.{slots_with}
-use Rattle.node_memory.proofs.Fits.{AreFit, IsFit, fit-with_at, owned_in}
+use Rattle.node_memory.proofs.Fits.{AreFit, IsFit, owned_in}
 use Rattle.node_memory.proofs.Held.{AreCopies, copy-held}
 use Rattle.node_memory.proofs.LineViews.{LineView, line_view, none-from, view-with_at, with_at-map, with_at-same}
-use Rattle.node_memory.proofs.Victims.{IsLeaving, victim-leaves}
+use Rattle.node_memory.proofs.Victims.{victim-leaves}
 
 -- ---- the line that is asked for
 

@@ -1,5 +1,5 @@
 -- Changes of recency, which no line sees: a line comes near, is read or written.
-use Rattle.std.proofs.Common.{◌≡◌, ℕ, ◌/◌, ◌%◌, ◌==◌, Bool, true, false, cond, List, [], ◌∷◌, length, Option, Some, None, is_some, option_map, refl, sym, ap, subst, ◌∙◌}
+use Rattle.std.proofs.Common.{◌≡◌, ℕ, ◌/◌, ◌%◌, Bool, true, false, cond, List, [], ◌∷◌, length, Option, Some, None, option_map, refl, sym, ap, subst, ◌∙◌}
 use Rattle.std.specs.Option.{option_map_or}
 use Rattle.rsim_base.specs.declared.memory.Size.{Size}
 use Rattle.cache_sets.specs.Caches.{CacheView, slot_count, slot_of, touched}
@@ -9,7 +9,6 @@ use Rattle.cache_sets.proofs.Calls.{set_of_slot}
 use Rattle.cache_sets.proofs.Looking.{IsApart-sound, LooksUp-touched}
 use Rattle.cache_sets.proofs.Soundness.{IsSound-touched}
 use Rattle.cache_levels.specs.Bytes.{written_at}
-use Rattle.cache_levels.specs.Levels as level
 use Rattle.cache_levels.specs.Levels.{LevelsView, brought, held, touched_levels, touched_line, with_line, written}
 use Rattle.cache_levels.specs.Sound.{AreSound}
 use Rattle.cache_levels.specs.declared.levels.LineCopy.{LineCopy}

@@ -1,6 +1,5 @@
 -- What the calls of a node mean to the protocol.
 use Rattle.std.specs.Prelude.{◌≡◌, ℕ, ◌%◌, true}
-use Rattle.rsim_base.specs.Bytes.{count_of}
 use Rattle.rsim_base.specs.declared.memory.Size.{Size}
 use Rattle.memory_contracts.specs.Protocol.Content.{bytes_of}
 use Rattle.memory_contracts.specs.Protocol.Lines.{Owned}
@@ -14,7 +13,7 @@ use Rattle.node_memory.specs.Nodes.{NodeView, after_read, after_wish, after_writ
 use Rattle.node_memory.specs.Rows.{after_message, is_grant}
 use Rattle.node_memory.specs.Sides.{Begins, Side, side_of, takes_message}
 use Rattle.node_memory.specs.Sound.{IsSound}
-use Rattle.node_memory.specs.Starting.{arrived, begins}
+use Rattle.node_memory.specs.Starting.{begins}
 
 -- a message does to its line what the protocol's table says, and nothing to any other; a line that it grants has to be awaited
 abbrev pub MessageFollows : Type 0

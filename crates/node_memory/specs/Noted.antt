@@ -1,5 +1,5 @@
 -- What the parts of a node stand for.
-use Rattle.std.specs.Prelude.{if◌then◌else◌, ℕ, ◌%◌, Bool, List, [], ◌∷◌, map, Option, None, Some}
+use Rattle.std.specs.Prelude.{if◌then◌else◌, ℕ, ◌%◌, List, [], ◌∷◌, map, Option, None, Some}
 use Rattle.std.specs.Option.{option_map_or}
 use Rattle.rsim_base.specs.declared.memory.Line.{Line}
 use Rattle.rsim_base.specs.declared.memory.Node.{Node}

@@ -1,5 +1,5 @@
 -- How a node begins its part of a tick: lines that are fetched come near, and the first wish starts if it may.
-use Rattle.std.specs.Prelude.{ℕ, ◌+◌, nat_le, nat_lt, Bool, true, false, not, ◌&&◌, ◌||◌, if◌then◌else◌, List, [], ◌∷◌, ◌++◌, length, Option, None, Some, is_some, option_map}
+use Rattle.std.specs.Prelude.{ℕ, ◌+◌, nat_le, nat_lt, Bool, true, false, not, ◌&&◌, ◌||◌, if◌then◌else◌, List, [], ◌∷◌, ◌++◌, length, Option, None, Some}
 use Rattle.std.specs.Option.{option_map_or}
 use Rattle.rsim_base.specs.declared.memory.Line.{Line}
 use Rattle.memory_contracts.specs.Protocol.Awaited.{is_leaving}

@@ -1,4 +1,4 @@
-use Rattle.std.proofs.Common.{◌≡◌, ◌≤◌, true, List, length, drop, sym, subst, arith}
+use Rattle.std.proofs.Common.{◌≡◌, ◌≤◌, true, List, length, sym, subst, arith}
 use Rattle.std.proofs.lemmas.List.{length-drop}
 use Rattle.memory_contracts.specs.Store.{Wish, most_wishes}
 use Rattle.node_memory.specs.Nodes.{Coming}

@@ -1,4 +1,4 @@
-use Rattle.std.proofs.Common.{◌≡◌, true, List, sym, ap, subst, ◌∙◌}
+use Rattle.std.proofs.Common.{◌≡◌, true, List, sym, subst, ◌∙◌}
 use Rattle.cache_levels.specs.Levels.{LevelsView}
 use Rattle.node_memory.specs.Nodes.{Coming}
 use Rattle.node_memory.specs.NodeViews.{node_of}

@@ -1,10 +1,9 @@
-use Rattle.std.proofs.Common.{◌≡◌, ◌/◌, ◌%◌, true, cond, List, ℕ, Option, None, Some, option_map, slice_index, sym, ap, ◌∙◌}
+use Rattle.std.proofs.Common.{◌/◌, ◌%◌, Some, option_map, slice_index, sym, ap, ◌∙◌}
 use Rattle.rsim_base.specs.Bytes.{count_of}
 use Rattle.cache_levels.specs.Levels as level
 use Rattle.cache_levels.specs.Levels.{LevelsView, near, touched_levels, touched_line}
 use Rattle.cache_levels.specs.declared.levels.LineCopy.{LineCopy}
 use Rattle.memory_contracts.specs.Store.{value_at}
-use Rattle.node_memory.specs.Nodes.{byte_in, line_at, read_of}
 use Rattle.node_memory.specs.NodeViews.{node_of}
 use Rattle.node_memory.proofs.Reading.{near-has_bytes, read-near, read-value}
 use Rattle.node_memory.proofs.Touching.{sound-touched}

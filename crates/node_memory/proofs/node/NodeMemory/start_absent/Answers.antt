@@ -1,6 +1,5 @@
 use Rattle.std.proofs.Common.{◌≡◌, ◌++◌, ◌∷◌, [], List, length, Option, Some, map, refl, sym, ap, ◌∙◌, arith, length-append}
 use Rattle.std.proofs.lemmas.List.{length-map}
-use Rattle.cache_levels.specs.Levels.{with_room}
 use Rattle.cache_levels.specs.declared.levels.Evicted.{Evicted}
 use Rattle.memory_contracts.specs.Parts.{wish_of}
 use Rattle.miss_registers.specs.Misses.{with_register}

@@ -1,4 +1,4 @@
-use Rattle.std.proofs.Common.{◌≡◌, ◌<◌, List, length, sym, ap, subst, ◌∙◌}
+use Rattle.std.proofs.Common.{◌<◌, List, length, sym, ap, subst, ◌∙◌}
 use Rattle.node_memory.specs.Nodes.{Coming, NodeView}
 use Rattle.node_memory.specs.NodeViews.{node_of}
 use Rattle.node_memory.specs.Sound.{AreBefore}

@@ -1,5 +1,5 @@
-use Rattle.std.proofs.Common.{◌≡◌, ◌/◌, ap, sym, ◌∙◌}
-use Rattle.cache_levels.specs.Levels.{LevelsView, touched_levels, written}
+use Rattle.std.proofs.Common.{◌/◌, ap, sym, ◌∙◌}
+use Rattle.cache_levels.specs.Levels.{touched_levels}
 use Rattle.node_memory.specs.Nodes.{line_at}
 use Rattle.node_memory.specs.NodeViews.{node_of}
 use Rattle.node_memory.proofs.Touching.{sound-written}
