@@ -35,7 +35,7 @@ pub struct NodeMemory {
     nodes: u32,
     latency: u32,
     line_bytes: u64,
-    lines: Lines,
+    pub(crate) lines: Lines,
     wishes: WishList,
     coming: Coming,
     outbox: Outbox,
