@@ -23,6 +23,7 @@ use Rattle.node_memory.specs.Sides.{Begins, Side, side_of}
 use Rattle.node_memory.specs.Sound.{AreBefore}
 use Rattle.node_memory.specs.Starting.{Begun, arrived, asks, begins, evicts, first_begins, has_to_wait, is_absent, meets, met, starts, starts_absent, starts_shared, uncovered}
 use Rattle.node_memory.proofs.Beginning.{MayBegin, starts-follow}
+use Rattle.node_memory.proofs.Below.{CacheLaws}
 use Rattle.node_memory.proofs.Fetched.{arrive-before}
 use Rattle.node_memory.proofs.Fits.{AreFit, fit-sound, rows, view-message}
 use Rattle.node_memory.proofs.Held.{AreCopies, copies_of, held-copy, held-is}
@@ -31,13 +32,13 @@ use Rattle.node_memory.proofs.Touching.{AreAlike, alike-touched, arrive-alike, c
 
 -- ---- a message
 
-pub message-follows : MessageFollows
-message-follows m v sound awaited =
+pub message-follows : CacheLaws → MessageFollows
+message-follows laws m v sound awaited =
     let old = line_view v.levels v.misses in
     let new = changed (change_at m v) (old m.line) in
     let row = rows m.message (old m.line) in
-    let view = view-message m v sound awaited in
-    let copy = λ (l : ℕ). ap kept (view l) ∙ (with_at-map kept old m.line new l ∙ ap (λ c. with_at (copy_of v) m.line c l) (row.copy (fit-sound v sound m.line))) in
+    let view = view-message laws m v sound awaited in
+    let copy = λ (l : ℕ). ap kept (view l) ∙ (with_at-map kept old m.line new l ∙ ap (λ c. with_at (copy_of v) m.line c l) (row.copy (fit-sound laws v sound m.line))) in
     let register = λ (l : ℕ). ap (λ (x : LineView). is_some x.register) (view l) ∙ (with_at-map (λ x. is_some x.register) old m.line new l ∙ ap (λ b. with_at (awaits v) m.line b l) row.register) in
     λ i. record { nodes = v.nodes; copies = λ l. copy l i; registers = λ l. register l i; outbox = v.outbox ++ map (mail v m.line) (step_at m v).sent }
 
@@ -46,15 +47,15 @@ message-follows m v sound awaited =
 side-alike : (v : NodeView) (levels : LevelsView) → AreAlike v.levels levels → side_of (record v { levels = levels }) ≡ side_of v
 side-alike v levels alike = let copy = λ (l : ℕ). ap kept (view-alike v.levels levels v.misses l alike) in λ i. record { nodes = v.nodes; copies = λ l. copy l i; registers = awaits v; outbox = v.outbox }
 
-pub read-follows : ReadFollows
-read-follows a v sound = by (near (line_at v a) v.levels)
+pub read-follows : CacheLaws → ReadFollows
+read-follows laws a v sound = by (near (line_at v a) v.levels)
   where
     by : (b : Bool) → side_of (cond b (record v { levels = touched_levels (line_at v a) v.levels }) v) ≡ side_of v
-    by true = side-alike v (touched_levels (line_at v a) v.levels) (alike-touched (line_at v a) v.levels (touched_line (line_at v a) v.levels.first) sound.levels.second)
+    by true = side-alike v (touched_levels (line_at v a) v.levels) (alike-touched laws (line_at v a) v.levels (touched_line (line_at v a) v.levels.first) sound.levels.second)
     by false = refl
 
-pub held-follows : HeldFollows
-held-follows v sound l = held-copy l v.levels (copies_of v.levels sound.levels) ∙ sym (held-is (level.copy_of l v.levels) (victim_of v.misses l))
+pub held-follows : CacheLaws → HeldFollows
+held-follows laws v sound l = held-copy l v.levels (copies_of laws v.levels sound.levels) ∙ sym (held-is (level.copy_of l v.levels) (victim_of v.misses l))
 
 -- ---- a write
 
@@ -65,8 +66,8 @@ written-owned at n value x (Some copy) is owns =
     ∙ (ap (λ b. granted b (written_at at n value copy.bytes)) owns
     ∙ sym (ap (λ c. Owned (written_at at n value (bytes_of c))) (ap (λ o. kept_as o x.slot) is ∙ ap (λ b. granted b copy.bytes) owns)))
 
-pub write-follows : WriteFollows
-write-follows a n value v sound owns = ap (λ b. side_of (cond b (record v { levels = touched_levels line (written a n value v.levels) }) v)) owns ∙ (λ i. record { nodes = v.nodes; copies = λ l. copy l i; registers = awaits v; outbox = v.outbox })
+pub write-follows : CacheLaws → WriteFollows
+write-follows laws a n value v sound owns = ap (λ b. side_of (cond b (record v { levels = touched_levels line (written a n value v.levels) }) v)) owns ∙ (λ i. record { nodes = v.nodes; copies = λ l. copy l i; registers = awaits v; outbox = v.outbox })
   where
     line : ℕ
     line = line_at v a
@@ -79,7 +80,7 @@ write-follows a n value v sound owns = ap (λ b. side_of (cond b (record v { lev
 
     copy : (l : ℕ) → copy_of (record v { levels = touched_levels line (written a n value v.levels) }) l ≡ with_at (copy_of v) line (Owned (written_at (a % v.levels.line_bytes) n value (bytes_of (copy_of v line)))) l
     copy l =
-        ap kept (view-written a n value v.levels v.misses l sound.levels)
+        ap kept (view-written laws a n value v.levels v.misses l sound.levels)
         ∙ (with_at-map kept old line new l ∙ ap (λ c. with_at (copy_of v) line c l) (written-owned (a % v.levels.line_bytes) n value (old line) (old line).copy refl owns))
 
 -- ---- the beginning of a tick
@@ -115,13 +116,13 @@ first-follows now wishes (w ∷ ws) v s same copies fit among = by_meets (meets 
     by_meets true unmet = Begins.stays same
     by_meets false unmet = by_wait (has_to_wait w v) refl unmet
 
-pub begin-follows : BeginFollows
-begin-follows now v sound =
+pub begin-follows : CacheLaws → BeginFollows
+begin-follows laws now v sound =
     let u = arrived now v in
-    let alike = arrive-alike v.latency now v.coming v.levels sound.levels.second in
-    let copies = copies-alike v.levels u.levels (copies_of v.levels sound.levels) alike in
+    let alike = arrive-alike laws v.latency now v.coming v.levels sound.levels.second in
+    let copies = copies-alike v.levels u.levels (copies_of laws v.levels sound.levels) alike in
     first-follows now v.wishes (uncovered v.misses v.wishes) u (side_of v) (side-alike v u.levels alike) copies
-    (fit-alike v.levels u.levels v.misses alike (fit-sound v sound))
+    (fit-alike v.levels u.levels v.misses alike (fit-sound laws v sound))
     (λ w rest is. uncovered-among v.misses v.wishes w rest is)
 
 -- ---- wishes only leave
