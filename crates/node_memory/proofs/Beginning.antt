@@ -23,6 +23,7 @@ use Rattle.node_memory.specs.Nodes.{NodeView, awaits, copy_of, kept_as, mail, mo
 use Rattle.node_memory.specs.Sides.{Begins, MayStart, asks_for, evicts_line, side_of}
 use Rattle.node_memory.specs.Sound.{IsSound}
 use Rattle.node_memory.specs.Starting.{Begun, asks, evicts, has_to_wait, is_absent, lacks_way, meets, slots_with, starts, starts_absent, starts_shared}
+use Rattle.node_memory.proofs.Below.{CacheLaws}
 use Rattle.node_memory.proofs.Fits.{AreFit, IsFit, fit-sound, fit-with_at, owned_in, sound-with}
 use Rattle.node_memory.proofs.Held.{AreCopies, absent-is, copies_of, held-copy, held-is, leaving-is}
 use Rattle.node_memory.proofs.LineViews.{LineView, kept, line_view, with_at-map, with_at-same}
@@ -115,13 +116,10 @@ begin-absent w v copies may absent =
     absurd cc)
     (begin-cases w v may)
 
-pub begin-shared : (w : Wish) (v : NodeView) → AreCopies v.levels → MayBegin w v → held w.line v.levels ≡ true → IsShared w v
-begin-shared w v copies may there =
+pub begin-shared : (w : Wish) (v : NodeView) → MayBegin w v → is_some (level.copy_of w.line v.levels) ≡ true → IsShared w v
+begin-shared w v may there =
     ⊎_elim
-    (λ absent.
-    let gone : is_some (level.copy_of w.line v.levels) ≡ false = ap is_some absent.copy in
-    let here = held-copy w.line v.levels copies in
-    absurd cc)
+    (λ absent. let gone : is_some (level.copy_of w.line v.levels) ≡ false = ap is_some absent.copy in absurd cc)
     (λ is. is)
     (begin-cases w v may)
 
@@ -160,11 +158,11 @@ no-way : (l : ℕ) (v : NodeView) → AreFit v.levels v.misses → register_of v
 no-way l v fit none = none-is (reserved_slot l v.levels.second) (sym (fit l).way ∙ ap is_some none)
 
 -- the line comes into a way, and another may leave it
-pub sound-absent : (w : Wish) (v : NodeView) (levels : LevelsView) (misses : MissView) (outbox : List Mail) → IsSound v → (absent : IsAbsent w v) →
+pub sound-absent : CacheLaws → (w : Wish) (v : NodeView) (levels : LevelsView) (misses : MissView) (outbox : List Mail) → IsSound v → (absent : IsAbsent w v) →
     levels ≡ with_room w.line v.levels → misses ≡ with_register w.line w.own (slots_with (told_of v.levels.copies absent.way.slot absent.way.line) v.misses) → AreSound levels → length outbox ≤ most_mails →
     IsSound (record v { levels = levels; misses = misses; outbox = outbox })
-sound-absent w v levels misses outbox sound absent levels_are misses_are sound_levels room =
-    sound-with v levels misses v.wishes v.coming outbox sound sound_levels
+sound-absent laws w v levels misses outbox sound absent levels_are misses_are sound_levels room =
+    sound-with laws v levels misses v.wishes v.coming outbox sound sound_levels
     (λ l. subst IsFit (sym (view-of l)) (fit-with_at (base absent.way.line) w.line (asked w.own (Some absent.way.slot) (base absent.way.line w.line)) (fit-base absent.way.line refl) (fit-line absent.way.line refl) l))
     sound.wishes sound.coming room
   where
@@ -175,10 +173,10 @@ sound-absent w v levels misses outbox sound absent levels_are misses_are sound_l
     copy = copy_at v.levels.copies absent.way.slot
 
     copies : AreCopies v.levels
-    copies = copies_of v.levels sound.levels
+    copies = copies_of laws v.levels sound.levels
 
     fit : AreFit v.levels v.misses
-    fit = fit-sound v sound
+    fit = fit-sound laws v sound
 
     base : Option ℕ → ℕ → LineView
     base mark = without mark copy old
@@ -206,20 +204,20 @@ sound-absent w v levels misses outbox sound absent levels_are misses_are sound_l
         fit-asked w.own absent.way.slot (base mark w.line) (fit-base mark is w.line) (ap (λ (x : LineView). x.slot) (same mark is) ∙ absent.slot) (ap (λ (x : LineView). owned_in x.copy) (same mark is) ∙ ap owned_in absent.copy)
 
 -- the way of a shared line is held
-pub sound-shared : (w : Wish) (v : NodeView) (levels : LevelsView) (misses : MissView) (outbox : List Mail) → IsSound v → IsShared w v →
+pub sound-shared : CacheLaws → (w : Wish) (v : NodeView) (levels : LevelsView) (misses : MissView) (outbox : List Mail) → IsSound v → IsShared w v →
     levels ≡ held_way w.line v.levels → misses ≡ with_register w.line w.own v.misses → AreSound levels → length outbox ≤ most_mails →
     IsSound (record v { levels = levels; misses = misses; outbox = outbox })
-sound-shared w v levels misses outbox sound shared levels_are misses_are sound_levels room =
-    sound-with v levels misses v.wishes v.coming outbox sound sound_levels (fits (slot_of w.line v.levels.second) refl) sound.wishes sound.coming room
+sound-shared laws w v levels misses outbox sound shared levels_are misses_are sound_levels room =
+    sound-with laws v levels misses v.wishes v.coming outbox sound sound_levels (fits (slot_of w.line v.levels.second) refl) sound.wishes sound.coming room
   where
     old : ℕ → LineView
     old = line_view v.levels v.misses
 
     fit : AreFit v.levels v.misses
-    fit = fit-sound v sound
+    fit = fit-sound laws v sound
 
     copies : AreCopies v.levels
-    copies = copies_of v.levels sound.levels
+    copies = copies_of laws v.levels sound.levels
 
     there : is_some (level.copy_of w.line v.levels) ≡ true
     there = ap is_some shared.copy_is

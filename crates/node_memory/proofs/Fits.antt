@@ -16,6 +16,7 @@ use Rattle.node_memory.specs.Rows.{Allows, after_message, change_at, change_by, 
 use Rattle.node_memory.specs.Sound.{IsSound, are_rising}
 use Rattle.node_memory.specs.declared.table.Change.{Change}
 use Rattle.node_memory.specs.declared.table.Change.TheVariants.{Lose, Share, Fill, EmptySlot, FreeSlot}
+use Rattle.node_memory.proofs.Below.{CacheLaws}
 use Rattle.node_memory.proofs.Held.{AreCopies, copies_of, held-copy}
 use Rattle.node_memory.proofs.LineViews.{LineView, changed, fill_slot, kept, line_view, unowned, view-changed}
 
@@ -31,30 +32,46 @@ pub record IsFit (x : LineView) : Type 0 where
 abbrev pub AreFit : LevelsView → MissView → Type 0
 AreFit levels misses = (l : ℕ) → IsFit (line_view levels misses l)
 
-pub fit-sound : (v : NodeView) → IsSound v → AreFit v.levels v.misses
-fit-sound v sound l = record {
+pub fit-sound : CacheLaws → (v : NodeView) → IsSound v → AreFit v.levels v.misses
+fit-sound laws v sound l = record {
   way = sound.ways l;
-  held = λ there. sound.slotless_held l (held-copy l v.levels (copies_of v.levels sound.levels) ∙ there);
+  held = λ there. sound.slotless_held l (held-copy l v.levels (copies_of laws v.levels sound.levels) ∙ there);
   awaited = sound.slotless_awaited l;
   unowned = sound.unowned l;
 }
 
 -- a node that has changed, and of which all that has to be true is
-pub sound-with : (v : NodeView) (levels : LevelsView) (misses : MissView) (wishes : List Wish) (coming : List Coming) (outbox : List Mail) → IsSound v →
+pub sound-with : CacheLaws → (v : NodeView) (levels : LevelsView) (misses : MissView) (wishes : List Wish) (coming : List Coming) (outbox : List Mail) → IsSound v →
     AreSound levels → AreFit levels misses → length wishes ≤ most_wishes → are_rising 0 coming ≡ true → length outbox ≤ most_mails →
     IsSound (record v { levels = levels; misses = misses; wishes = wishes; coming = coming; outbox = outbox })
-sound-with v levels misses wishes coming outbox sound sound_levels fit few rising room = record {
+sound-with laws v levels misses wishes coming outbox sound sound_levels fit few rising room = record {
   nodes = sound.nodes;
   few = sound.few;
   latency = sound.latency;
   levels = sound_levels;
   ways = λ l. (fit l).way;
-  slotless_held = λ l there. (fit l).held (sym (held-copy l levels (copies_of levels sound_levels)) ∙ there);
+  slotless_held = λ l there. (fit l).held (sym (held-copy l levels (copies_of laws levels sound_levels)) ∙ there);
   slotless_awaited = λ l. (fit l).awaited;
   unowned = λ l. (fit l).unowned;
   wishes = few;
   coming = rising;
   outbox = room;
+}
+
+-- a node whose caches and misses are as before
+pub sound-waiting : (v : NodeView) (wishes : List Wish) (coming : List Coming) → IsSound v → length wishes ≤ most_wishes → are_rising 0 coming ≡ true → IsSound (record v { wishes = wishes; coming = coming })
+sound-waiting v wishes coming sound few rising = record {
+  nodes = sound.nodes;
+  few = sound.few;
+  latency = sound.latency;
+  levels = sound.levels;
+  ways = sound.ways;
+  slotless_held = sound.slotless_held;
+  slotless_awaited = sound.slotless_awaited;
+  unowned = sound.unowned;
+  wishes = few;
+  coming = rising;
+  outbox = sound.outbox;
 }
 
 pub fit-with_at : (f : ℕ → LineView) (line : ℕ) (x : LineView) → ((l : ℕ) → IsFit (f l)) → IsFit x → (l : ℕ) → IsFit (with_at f line x l)
@@ -151,24 +168,24 @@ rows m x = by x.copy
 
 -- ---- a message
 
-pub message-allowed : (m : Letter) (v : NodeView) → IsSound v → (is_grant m.message ≡ true → awaits v m.line ≡ true) → AllowsLine (change_at m v) (line_view v.levels v.misses m.line)
-message-allowed m v sound awaited = (rows m.message (line_view v.levels v.misses m.line)).allowed (fit-sound v sound m.line) awaited
+pub message-allowed : CacheLaws → (m : Letter) (v : NodeView) → IsSound v → (is_grant m.message ≡ true → awaits v m.line ≡ true) → AllowsLine (change_at m v) (line_view v.levels v.misses m.line)
+message-allowed laws m v sound awaited = (rows m.message (line_view v.levels v.misses m.line)).allowed (fit-sound laws v sound m.line) awaited
 
-pub view-message : (m : Letter) (v : NodeView) → IsSound v → (is_grant m.message ≡ true → awaits v m.line ≡ true) → (l : ℕ) →
+pub view-message : CacheLaws → (m : Letter) (v : NodeView) → IsSound v → (is_grant m.message ≡ true → awaits v m.line ≡ true) → (l : ℕ) →
     line_view (after_message m v).levels (after_message m v).misses l ≡ with_at (line_view v.levels v.misses) m.line (changed (change_at m v) (line_view v.levels v.misses m.line)) l
-view-message m v sound awaited l =
-    view-changed (change_at m v) m.line l v.levels v.misses sound.levels (allows-from (change_at m v) m.line v.levels v.misses (copies_of v.levels sound.levels) (message-allowed m v sound awaited))
+view-message laws m v sound awaited l =
+    view-changed laws (change_at m v) m.line l v.levels v.misses sound.levels (allows-from (change_at m v) m.line v.levels v.misses (copies_of laws v.levels sound.levels) (message-allowed laws m v sound awaited))
 
 -- the levels and the misses are changed so, and there is room for what is sent
-pub sound-message : (m : Letter) (v : NodeView) (levels : LevelsView) (misses : MissView) (outbox : List Mail) → IsSound v → (is_grant m.message ≡ true → awaits v m.line ≡ true) →
+pub sound-message : CacheLaws → (m : Letter) (v : NodeView) (levels : LevelsView) (misses : MissView) (outbox : List Mail) → IsSound v → (is_grant m.message ≡ true → awaits v m.line ≡ true) →
     levels ≡ levels_after (change_at m v) m.line v.levels → misses ≡ misses_after (change_at m v) m.line v.misses → AreSound levels → length outbox ≤ most_mails → IsSound (record v { levels = levels; misses = misses; outbox = outbox })
-sound-message m v levels misses outbox sound awaited levels_are misses_are sound_levels room =
+sound-message laws m v levels misses outbox sound awaited levels_are misses_are sound_levels room =
     let old = line_view v.levels v.misses in
-    let fits = fit-with_at old m.line (changed (change_at m v) (old m.line)) (fit-sound v sound) (fit-changed (change_at m v) (old m.line) (fit-sound v sound m.line) (message-allowed m v sound awaited)) in
-    sound-with v levels misses v.wishes v.coming outbox sound sound_levels (λ l. subst IsFit (sym (view-of l)) (fits l)) sound.wishes sound.coming room
+    let fits = fit-with_at old m.line (changed (change_at m v) (old m.line)) (fit-sound laws v sound) (fit-changed (change_at m v) (old m.line) (fit-sound laws v sound m.line) (message-allowed laws m v sound awaited)) in
+    sound-with laws v levels misses v.wishes v.coming outbox sound sound_levels (λ l. subst IsFit (sym (view-of l)) (fits l)) sound.wishes sound.coming room
   where
     view-of : (l : ℕ) → line_view levels misses l ≡ with_at (line_view v.levels v.misses) m.line (changed (change_at m v) (line_view v.levels v.misses m.line)) l
-    view-of l = ap (λ levels. line_view levels misses l) levels_are ∙ (ap (λ misses. line_view (levels_after (change_at m v) m.line v.levels) misses l) misses_are ∙ view-message m v sound awaited l)
+    view-of l = ap (λ levels. line_view levels misses l) levels_are ∙ (ap (λ misses. line_view (levels_after (change_at m v) m.line v.levels) misses l) misses_are ∙ view-message laws m v sound awaited l)
 
 pub line_bytes-after : (change : Change) (line : ℕ) (levels : LevelsView) → (levels_after change line levels).line_bytes ≡ levels.line_bytes
 line_bytes-after (Fill own bytes) line levels = by (reserved_slot line levels.second)

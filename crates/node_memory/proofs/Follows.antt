@@ -1,6 +1,7 @@
 -- What the calls of a node mean to the protocol.
-use Rattle.std.proofs.Common.{◌≡◌, ℕ, suc, ◌%◌, Bool, true, false, cond, List, [], ◌∷◌, ◌++◌, map, Option, Some, None, inl, inr, is_some, option_map, refl, sym, ap, subst, ◌∙◌, arith}
+use Rattle.std.proofs.Common.{◌≡◌, ℕ, suc, ◌+◌, ◌<◌, ◌%◌, Bool, true, false, cond, List, [], ◌∷◌, ◌++◌, map, Option, Some, None, inl, inr, is_some, option_map, refl, sym, ap, subst, ◌∙◌, arith}
 use Rattle.std.specs.List.{Contains}
+use Rattle.std.proofs.lemmas.List.Elements.{All-push}
 use Rattle.std.specs.Option.{option_map_or}
 use Rattle.rsim_base.specs.declared.memory.Line.{Line}
 use Rattle.rsim_base.specs.declared.memory.Size.{Size}
@@ -16,11 +17,14 @@ use Rattle.memory_contracts.specs.Store.{IsLeftOf, Wish}
 use Rattle.memory_contracts.specs.Updates.{with_at}
 use Rattle.miss_registers.specs.Misses.{MissView, covers, register_of, victim_of}
 use Rattle.node_memory.specs.Laws.{BeginFollows, HeldFollows, MessageFollows, ReadFollows, WishesLeave, WriteFollows}
-use Rattle.node_memory.specs.Nodes.{NodeView, awaits, copy_of, kept_as, line_at, mail}
+use Rattle.node_memory.specs.Nodes.{Coming, NodeView, awaits, copy_of, kept_as, line_at, mail}
 use Rattle.node_memory.specs.Rows.{change_at, step_at}
 use Rattle.node_memory.specs.Sides.{Begins, Side, side_of}
-use Rattle.node_memory.specs.Starting.{Begun, arrived, asks, evicts, first_begins, has_to_wait, is_absent, meets, met, starts, starts_absent, starts_shared, uncovered}
+use Rattle.node_memory.specs.Sound.{AreBefore}
+use Rattle.node_memory.specs.Starting.{Begun, arrived, asks, begins, evicts, first_begins, has_to_wait, is_absent, meets, met, starts, starts_absent, starts_shared, uncovered}
 use Rattle.node_memory.proofs.Beginning.{MayBegin, starts-follow}
+use Rattle.node_memory.proofs.Below.{CacheLaws}
+use Rattle.node_memory.proofs.Fetched.{arrive-before}
 use Rattle.node_memory.proofs.Fits.{AreFit, fit-sound, rows, view-message}
 use Rattle.node_memory.proofs.Held.{AreCopies, copies_of, held-copy, held-is}
 use Rattle.node_memory.proofs.LineViews.{LineView, changed, kept, line_view, with_at-map}
@@ -28,13 +32,13 @@ use Rattle.node_memory.proofs.Touching.{AreAlike, alike-touched, arrive-alike, c
 
 -- ---- a message
 
-pub message-follows : MessageFollows
-message-follows m v sound awaited =
+pub message-follows : CacheLaws → MessageFollows
+message-follows laws m v sound awaited =
     let old = line_view v.levels v.misses in
     let new = changed (change_at m v) (old m.line) in
     let row = rows m.message (old m.line) in
-    let view = view-message m v sound awaited in
-    let copy = λ (l : ℕ). ap kept (view l) ∙ (with_at-map kept old m.line new l ∙ ap (λ c. with_at (copy_of v) m.line c l) (row.copy (fit-sound v sound m.line))) in
+    let view = view-message laws m v sound awaited in
+    let copy = λ (l : ℕ). ap kept (view l) ∙ (with_at-map kept old m.line new l ∙ ap (λ c. with_at (copy_of v) m.line c l) (row.copy (fit-sound laws v sound m.line))) in
     let register = λ (l : ℕ). ap (λ (x : LineView). is_some x.register) (view l) ∙ (with_at-map (λ x. is_some x.register) old m.line new l ∙ ap (λ b. with_at (awaits v) m.line b l) row.register) in
     λ i. record { nodes = v.nodes; copies = λ l. copy l i; registers = λ l. register l i; outbox = v.outbox ++ map (mail v m.line) (step_at m v).sent }
 
@@ -43,15 +47,15 @@ message-follows m v sound awaited =
 side-alike : (v : NodeView) (levels : LevelsView) → AreAlike v.levels levels → side_of (record v { levels = levels }) ≡ side_of v
 side-alike v levels alike = let copy = λ (l : ℕ). ap kept (view-alike v.levels levels v.misses l alike) in λ i. record { nodes = v.nodes; copies = λ l. copy l i; registers = awaits v; outbox = v.outbox }
 
-pub read-follows : ReadFollows
-read-follows a v sound = by (near (line_at v a) v.levels)
+pub read-follows : CacheLaws → ReadFollows
+read-follows laws a v sound = by (near (line_at v a) v.levels)
   where
     by : (b : Bool) → side_of (cond b (record v { levels = touched_levels (line_at v a) v.levels }) v) ≡ side_of v
-    by true = side-alike v (touched_levels (line_at v a) v.levels) (alike-touched (line_at v a) v.levels (touched_line (line_at v a) v.levels.first) sound.levels.second)
+    by true = side-alike v (touched_levels (line_at v a) v.levels) (alike-touched laws (line_at v a) v.levels (touched_line (line_at v a) v.levels.first) sound.levels.second)
     by false = refl
 
-pub held-follows : HeldFollows
-held-follows v sound l = held-copy l v.levels (copies_of v.levels sound.levels) ∙ sym (held-is (level.copy_of l v.levels) (victim_of v.misses l))
+pub held-follows : CacheLaws → HeldFollows
+held-follows laws v sound l = held-copy l v.levels (copies_of laws v.levels sound.levels) ∙ sym (held-is (level.copy_of l v.levels) (victim_of v.misses l))
 
 -- ---- a write
 
@@ -62,8 +66,8 @@ written-owned at n value x (Some copy) is owns =
     ∙ (ap (λ b. granted b (written_at at n value copy.bytes)) owns
     ∙ sym (ap (λ c. Owned (written_at at n value (bytes_of c))) (ap (λ o. kept_as o x.slot) is ∙ ap (λ b. granted b copy.bytes) owns)))
 
-pub write-follows : WriteFollows
-write-follows a n value v sound owns = ap (λ b. side_of (cond b (record v { levels = touched_levels line (written a n value v.levels) }) v)) owns ∙ (λ i. record { nodes = v.nodes; copies = λ l. copy l i; registers = awaits v; outbox = v.outbox })
+pub write-follows : CacheLaws → WriteFollows
+write-follows laws a n value v sound owns = ap (λ b. side_of (cond b (record v { levels = touched_levels line (written a n value v.levels) }) v)) owns ∙ (λ i. record { nodes = v.nodes; copies = λ l. copy l i; registers = awaits v; outbox = v.outbox })
   where
     line : ℕ
     line = line_at v a
@@ -76,7 +80,7 @@ write-follows a n value v sound owns = ap (λ b. side_of (cond b (record v { lev
 
     copy : (l : ℕ) → copy_of (record v { levels = touched_levels line (written a n value v.levels) }) l ≡ with_at (copy_of v) line (Owned (written_at (a % v.levels.line_bytes) n value (bytes_of (copy_of v line)))) l
     copy l =
-        ap kept (view-written a n value v.levels v.misses l sound.levels)
+        ap kept (view-written laws a n value v.levels v.misses l sound.levels)
         ∙ (with_at-map kept old line new l ∙ ap (λ c. with_at (copy_of v) line c l) (written-owned (a % v.levels.line_bytes) n value (old line) (old line).copy refl owns))
 
 -- ---- the beginning of a tick
@@ -112,13 +116,13 @@ first-follows now wishes (w ∷ ws) v s same copies fit among = by_meets (meets 
     by_meets true unmet = Begins.stays same
     by_meets false unmet = by_wait (has_to_wait w v) refl unmet
 
-pub begin-follows : BeginFollows
-begin-follows now v sound =
+pub begin-follows : CacheLaws → BeginFollows
+begin-follows laws now v sound =
     let u = arrived now v in
-    let alike = arrive-alike v.latency now v.coming v.levels sound.levels.second in
-    let copies = copies-alike v.levels u.levels (copies_of v.levels sound.levels) alike in
+    let alike = arrive-alike laws v.latency now v.coming v.levels sound.levels.second in
+    let copies = copies-alike v.levels u.levels (copies_of laws v.levels sound.levels) alike in
     first-follows now v.wishes (uncovered v.misses v.wishes) u (side_of v) (side-alike v u.levels alike) copies
-    (fit-alike v.levels u.levels v.misses alike (fit-sound v sound))
+    (fit-alike v.levels u.levels v.misses alike (fit-sound laws v sound))
     (λ w rest is. uncovered-among v.misses v.wishes w rest is)
 
 -- ---- wishes only leave
@@ -135,26 +139,53 @@ left-uncovered misses left (w ∷ ws) is = by (covers (register_of misses w.line
     by true is rest = inl (rest is)
     by false is rest = is
 
+-- a start leaves the wishes, and the lines on their way
+started : (w : Wish) (v : NodeView) → ((starts w v).after.wishes ≡ v.wishes) × ((starts w v).after.coming ≡ v.coming)
+started w v = by (is_absent (copy_of v w.line)) (level.evicted w.line v.levels)
+  where
+    leaving : (e : Evicted) (line : Option Line) → let after = asks w.line w.own (evicts w.line (record e { line = line }) v) in (after.wishes ≡ v.wishes) × (after.coming ≡ v.coming)
+    leaving e None = (refl, refl)
+    leaving e (Some line) = (refl, refl)
+
+    by : (b : Bool) (e : Option Evicted) → let after = (cond b (starts_absent w e v) (starts_shared w v)).after in (after.wishes ≡ v.wishes) × (after.coming ≡ v.coming)
+    by true None = (refl, refl)
+    by true (Some e) = leaving e e.line
+    by false e = (refl, refl)
+
 first-left : (now : ℕ) (ws : List Wish) (v : NodeView) → IsLeftOf (first_begins now ws v).after.wishes ws
 first-left now [] v = refl
-first-left now (w ∷ ws) v = by_meets (meets w.own (copy_of v w.line)) (has_to_wait w v)
+first-left now (w ∷ ws) v = by (meets w.own (copy_of v w.line)) (has_to_wait w v)
   where
     waiting : Begun
     waiting = record { answer = false; after = record v { wishes = w ∷ ws }; lost = [] }
 
-    started : (b : Bool) (e : Option Evicted) → (cond b (starts_absent w e (record v { wishes = ws })) (starts_shared w (record v { wishes = ws }))).after.wishes ≡ ws
-    started true None = refl
-    started true (Some e) = by e.line
-      where
-        by : (line : Option Line) → (asks w.line w.own (evicts w.line (record e { line = line }) (record v { wishes = ws }))).wishes ≡ ws
-        by None = refl
-        by (Some line) = refl
-    started false e = refl
-
-    by_meets : (b d : Bool) → IsLeftOf (cond b (met now w (record v { wishes = ws })) (cond d waiting (starts w (record v { wishes = ws })))).after.wishes (w ∷ ws)
-    by_meets true d = inl (left-same ws)
-    by_meets false true = left-same (w ∷ ws)
-    by_meets false false = inl (subst (λ left. IsLeftOf left ws) (sym (started (is_absent (copy_of v w.line)) (level.evicted w.line v.levels))) (left-same ws))
+    by : (b d : Bool) → IsLeftOf (cond b (met now w (record v { wishes = ws })) (cond d waiting (starts w (record v { wishes = ws })))).after.wishes (w ∷ ws)
+    by true d = inl (left-same ws)
+    by false true = left-same (w ∷ ws)
+    by false false = inl (subst (λ left. IsLeftOf left ws) (sym (started w (record v { wishes = ws })).0) (left-same ws))
 
 pub wishes-leave : WishesLeave
 wishes-leave now v = left-uncovered v.misses (first_begins now (uncovered v.misses v.wishes) (arrived now v)).after.wishes v.wishes (first-left now (uncovered v.misses v.wishes) (arrived now v))
+
+-- ---- lines on their way were fetched before the next tick
+
+before-next : (now : ℕ) (cs : List Coming) → AreBefore now cs → AreBefore (now + 1) cs
+before-next now cs before = λ k d below. omega (arith, before k d below)
+
+first-before : (now : ℕ) (ws : List Wish) (v : NodeView) → AreBefore now v.coming → AreBefore (now + 1) (first_begins now ws v).after.coming
+first-before now [] v before = before-next now v.coming before
+first-before now (w ∷ ws) v before = by (meets w.own (copy_of v w.line)) (has_to_wait w v)
+  where
+    fetched : Coming
+    fetched = record { line = w.line; since = now }
+
+    waiting : Begun
+    waiting = record { answer = false; after = record v { wishes = w ∷ ws }; lost = [] }
+
+    by : (b d : Bool) → AreBefore (now + 1) (cond b (met now w (record v { wishes = ws })) (cond d waiting (starts w (record v { wishes = ws })))).after.coming
+    by true d = All-push (λ (c : Coming). c.since < now + 1) v.coming fetched (before-next now v.coming before) (omega arith)
+    by false true = before-next now v.coming before
+    by false false = subst (λ cs. AreBefore (now + 1) cs) (sym (started w (record v { wishes = ws })).1) (before-next now v.coming before)
+
+pub begins-before : (now : ℕ) (v : NodeView) → AreBefore now v.coming → AreBefore (now + 1) (begins now v).after.coming
+begins-before now v before = first-before now (uncovered v.misses v.wishes) (arrived now v) (arrive-before v.latency now v.coming v.levels before)

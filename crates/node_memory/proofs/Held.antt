@@ -6,7 +6,6 @@ use Rattle.std.proofs.lemmas.Bool.{le-ltb}
 use Rattle.std.proofs.lemmas.Option.{slice_get-get_or}
 use Rattle.cache_sets.specs.Caches.{slot_count, slot_of}
 use Rattle.cache_sets.specs.Sound.{IsSound}
-use Rattle.cache_sets.proofs.Looking.{IsApart-sound}
 use Rattle.cache_levels.specs.Levels as level
 use Rattle.cache_levels.specs.Levels.{LevelsView, copy_at, evicted, held, no_copy}
 use Rattle.cache_levels.specs.Sound.{AreSound}
@@ -17,30 +16,32 @@ use Rattle.memory_contracts.specs.Store.{Wish}
 use Rattle.miss_registers.specs.Misses.{covers, registers_full, victim_of}
 use Rattle.node_memory.specs.Nodes.{NodeView, awaits, copy_of, kept_as, most_mails}
 use Rattle.node_memory.specs.Starting.{has_to_wait, is_absent, lacks_way, meets}
+use Rattle.node_memory.proofs.Below.{CacheLaws}
 
-abbrev copy_in : LevelsView → Option ℕ → Option LineCopy
-copy_in levels slot = option_and_then (slice_get levels.copies) slot
+abbrev pub copy_in : List LineCopy → Option ℕ → Option LineCopy
+copy_in copies slot = option_and_then (slice_get copies) slot
 
--- what is true of the second level
+-- what is true of the second level, and of all caches
 pub record AreCopies (levels : LevelsView) : Type 0 where
+  pub laws : CacheLaws
   pub second : IsSound levels.second
   pub copies : length levels.copies ≡ slot_count levels.second
 
-pub copies_of : (levels : LevelsView) → AreSound levels → AreCopies levels
-copies_of levels sound = record { second = sound.second; copies = sound.copies }
+pub copies_of : CacheLaws → (levels : LevelsView) → AreSound levels → AreCopies levels
+copies_of laws levels sound = record { laws = laws; second = sound.second; copies = sound.copies }
 
 -- the copy at the slot of a held line
 pub copy-held : (line slot : ℕ) (levels : LevelsView) → AreCopies levels → slot_of line levels.second ≡ Some slot → level.copy_of line levels ≡ Some (copy_at levels.copies slot)
 copy-held line slot levels sound is =
-    let within = (IsApart-sound levels.second sound.second).within line slot is in
+    let within = (sound.laws.apart levels.second sound.second).within line slot is in
     let below : slot < length levels.copies = omega (arith, within, sound.copies) in
-    ap (λ (o : Option ℕ). copy_in levels o) is ∙ slice_get-get_or levels.copies slot no_copy below
+    ap (λ (o : Option ℕ). copy_in levels.copies o) is ∙ slice_get-get_or levels.copies slot no_copy below
 
 pub held-copy : (line : ℕ) (levels : LevelsView) → AreCopies levels → held line levels ≡ is_some (level.copy_of line levels)
 held-copy line levels sound = by (slot_of line levels.second) refl
   where
     by : (slot : Option ℕ) → slot_of line levels.second ≡ slot → is_some (slot_of line levels.second) ≡ is_some (level.copy_of line levels)
-    by None is = ap is_some is ∙ sym (ap (λ (o : Option ℕ). is_some (copy_in levels o)) is)
+    by None is = ap is_some is ∙ sym (ap (λ (o : Option ℕ). is_some (copy_in levels.copies o)) is)
     by (Some slot) is = ap is_some is ∙ sym (ap (λ (o : Option LineCopy). is_some o) (copy-held line slot levels sound is))
 
 -- ---- what the calls of lines answer
@@ -95,10 +96,9 @@ covers-any (Some false) = refl
 -- ---- a wish for a held line
 
 -- where nothing else hinders it, it need not wait: the line is there
-pub waits-not : (w : Wish) (v : NodeView) → AreSound v.levels → held w.line v.levels ≡ true → length v.outbox + 2 ≤ most_mails → (is_leaving (copy_of v w.line) || awaits v w.line || registers_full v.misses) ≡ false → has_to_wait w v ≡ false
-waits-not w v sound there room free =
-    let here = sym (held-copy w.line v.levels (copies_of v.levels sound)) ∙ there in
-    let absent = absent-is (level.copy_of w.line v.levels) (victim_of v.misses w.line) ∙ ap (λ b. not b && not (is_some (victim_of v.misses w.line))) here in
+pub waits-not : (w : Wish) (v : NodeView) → is_some (level.copy_of w.line v.levels) ≡ true → length v.outbox + 2 ≤ most_mails → (is_leaving (copy_of v w.line) || awaits v w.line || registers_full v.misses) ≡ false → has_to_wait w v ≡ false
+waits-not w v there room free =
+    let absent = absent-is (level.copy_of w.line v.levels) (victim_of v.misses w.line) ∙ ap (λ b. not b && not (is_some (victim_of v.misses w.line))) there in
     none (is_leaving (copy_of v w.line)) (awaits v w.line) (registers_full v.misses) (nat_lt most_mails (length v.outbox + 2)) (is_absent (copy_of v w.line)) (lacks_way (evicted w.line v.levels) v.misses) free (le-ltb most_mails (length v.outbox + 2) room) absent
   where
     none : (a b c d e f : Bool) → (a || b || c) ≡ false → d ≡ false → e ≡ false → (a || b || c || d || (e && f)) ≡ false

@@ -1,4 +1,5 @@
 pub mod Beginning
+pub mod Below
 pub mod Empty
 pub mod Fetched
 pub mod Fits
@@ -7,6 +8,7 @@ pub mod Held
 pub mod LineViews
 pub mod Mails
 pub mod Reading
+pub mod Recency
 pub mod Starting
 pub mod Touching
 pub mod Victims

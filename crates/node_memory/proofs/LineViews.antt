@@ -2,13 +2,11 @@
 use Rattle.std.proofs.Common.{◌≡◌, ◌≢◌, ℕ, ◌==◌, Bool, true, false, cond, List, slice_set, Option, Some, None, option_map, refl, ap, ◌∙◌}
 use Rattle.std.specs.Option.{option_map_or}
 use Rattle.std.proofs.lemmas.Bool.{eqb-true}
-use Rattle.cache_sets.specs.Caches.{filled, reserved_slot, slot_of}
-use Rattle.cache_sets.proofs.Looking.{IsApart-sound, LooksUp-dropped, LooksUp-filled}
+use Rattle.cache_sets.specs.Caches.{filled, reserved_slot}
 use Rattle.cache_levels.specs.Levels as level
 use Rattle.cache_levels.specs.Levels.{LevelsView, filled_line, lost, shared, with_line}
 use Rattle.cache_levels.specs.Sound.{AreSound}
 use Rattle.cache_levels.specs.declared.levels.LineCopy.{LineCopy}
-use Rattle.cache_levels.proofs.Copying.{change_copies, copy_in, fill_copies}
 use Rattle.memory_contracts.specs.Protocol.Lines.{Copy}
 use Rattle.memory_contracts.specs.Updates.{with_at}
 use Rattle.miss_registers.specs.Misses.{MissView, register_of, victim_of}
@@ -17,6 +15,7 @@ use Rattle.node_memory.specs.Nodes.{kept_as}
 use Rattle.node_memory.specs.Rows.{Allows, levels_after, misses_after}
 use Rattle.node_memory.specs.declared.table.Change.{Change}
 use Rattle.node_memory.specs.declared.table.Change.TheVariants.{Nothing, Lose, Share, Fill, EmptySlot, FreeSlot}
+use Rattle.node_memory.proofs.Below.{CacheLaws}
 
 -- its copy in the caches, its victim slot, whether its register asks to own it, and the way that is reserved for it
 pub record LineView : Type 0 where
@@ -75,13 +74,6 @@ changed EmptySlot x = record x { slot = option_map (λ slot. None) x.slot }
 changed FreeSlot x = record x { slot = None }
 changed change x = x
 
-pub none-from : (b : Bool) (copies : List LineCopy) (slot : Option ℕ) → copy_in copies (cond b None slot) ≡ cond b None (copy_in copies slot)
-none-from true copies slot = refl
-none-from false copies slot = refl
-
-lost-copy : (line l : ℕ) (levels : LevelsView) → AreSound levels → level.copy_of l (lost line levels) ≡ with_at (λ k. level.copy_of k levels) line None l
-lost-copy line l levels sound = ap (copy_in levels.copies) ((LooksUp-dropped line levels.second sound.second).slot l) ∙ none-from (l == line) levels.copies (slot_of l levels.second)
-
 -- the levels after a fill, by the slot that is reserved
 abbrev pub fill_slot : ℕ → Bool → List ℕ → LevelsView → Option ℕ → LevelsView
 fill_slot line own bytes levels slot =
@@ -93,31 +85,31 @@ fill_slot line own bytes levels slot =
     })
     slot levels
 
-filled-way : (line l : ℕ) (own : Bool) (bytes : List ℕ) (levels : LevelsView) → AreSound levels → reserved_slot line levels.second ≢ None → reserved_slot l (filled_line line own bytes levels).second ≡ with_at (λ k. reserved_slot k levels.second) line None l
-filled-way line l own bytes levels sound some = by (reserved_slot line levels.second) refl
+filled-way : CacheLaws → (line l : ℕ) (own : Bool) (bytes : List ℕ) (levels : LevelsView) → AreSound levels → reserved_slot line levels.second ≢ None → reserved_slot l (filled_line line own bytes levels).second ≡ with_at (λ k. reserved_slot k levels.second) line None l
+filled-way laws line l own bytes levels sound some = by (reserved_slot line levels.second) refl
   where
     by : (way : Option ℕ) → reserved_slot line levels.second ≡ way → reserved_slot l (filled_line line own bytes levels).second ≡ with_at (λ k. reserved_slot k levels.second) line None l
     by None e = absurd (some e)
-    by (Some slot) e = ap (λ o. reserved_slot l (fill_slot line own bytes levels o).second) e ∙ (LooksUp-filled slot line levels.second e sound.second).reserved l
+    by (Some slot) e = ap (λ o. reserved_slot l (fill_slot line own bytes levels o).second) e ∙ (laws.fill slot line levels.second sound.second e).reserved l
 
-pub view-changed : (change : Change) (line l : ℕ) (levels : LevelsView) (misses : MissView) → AreSound levels → Allows change line levels →
+pub view-changed : CacheLaws → (change : Change) (line l : ℕ) (levels : LevelsView) (misses : MissView) → AreSound levels → Allows change line levels →
     line_view (levels_after change line levels) (misses_after change line misses) l ≡ with_at (line_view levels misses) line (changed change (line_view levels misses line)) l
-view-changed Nothing line l levels misses sound allowed = with_at-same (line_view levels misses) line l
-view-changed Lose line l levels misses sound allowed =
+view-changed laws Nothing line l levels misses sound allowed = with_at-same (line_view levels misses) line l
+view-changed laws Lose line l levels misses sound allowed =
     let old = line_view levels misses in
-    view-with_at old line (changed Lose (old line)) (line_view (lost line levels) misses l) l (lost-copy line l levels sound) (with_at-same (λ k. (old k).slot) line l) (with_at-same (λ k. (old k).register) line l)
-    ((LooksUp-dropped line levels.second sound.second).reserved l ∙ with_at-same (λ k. (old k).way) line l)
-view-changed Share line l levels misses sound allowed =
+    view-with_at old line (changed Lose (old line)) (line_view (lost line levels) misses l) l (laws.lost line levels sound l) (with_at-same (λ k. (old k).slot) line l) (with_at-same (λ k. (old k).register) line l)
+    ((laws.drop line levels.second sound.second).reserved l ∙ with_at-same (λ k. (old k).way) line l)
+view-changed laws Share line l levels misses sound allowed =
     let old = line_view levels misses in
-    view-with_at old line (changed Share (old line)) (line_view (shared line levels) misses l) l (change_copies IsApart-sound line unowned levels sound l) (with_at-same (λ k. (old k).slot) line l) (with_at-same (λ k. (old k).register) line l) (with_at-same (λ k. (old k).way) line l)
-view-changed (Fill own bytes) line l levels misses sound allowed =
+    view-with_at old line (changed Share (old line)) (line_view (shared line levels) misses l) l (laws.changed line unowned levels sound l) (with_at-same (λ k. (old k).slot) line l) (with_at-same (λ k. (old k).register) line l) (with_at-same (λ k. (old k).way) line l)
+view-changed laws (Fill own bytes) line l levels misses sound allowed =
     let old = line_view levels misses in
     view-with_at old line (changed (Fill own bytes) (old line)) (line_view (filled_line line own bytes levels) (misses_after (Fill own bytes) line misses) l) l
-    (fill_copies IsApart-sound (λ slot line cache sound is. LooksUp-filled slot line cache is sound) line own bytes levels sound allowed l) (with_at-same (λ k. (old k).slot) line l)
-    (register_of-without_register line misses l) (filled-way line l own bytes levels sound allowed)
-view-changed EmptySlot line l levels misses sound allowed =
+    (laws.filled line own bytes levels sound allowed l) (with_at-same (λ k. (old k).slot) line l)
+    (register_of-without_register line misses l) (filled-way laws line l own bytes levels sound allowed)
+view-changed laws EmptySlot line l levels misses sound allowed =
     let old = line_view levels misses in
     view-with_at old line (changed EmptySlot (old line)) (line_view levels (misses_after EmptySlot line misses) l) l (with_at-same (λ k. (old k).copy) line l) (victim_of-with_emptied line misses l) (with_at-same (λ k. (old k).register) line l) (with_at-same (λ k. (old k).way) line l)
-view-changed FreeSlot line l levels misses sound allowed =
+view-changed laws FreeSlot line l levels misses sound allowed =
     let old = line_view levels misses in
     view-with_at old line (changed FreeSlot (old line)) (line_view levels (misses_after FreeSlot line misses) l) l (with_at-same (λ k. (old k).copy) line l) (victim_of-without_victim line misses l) (with_at-same (λ k. (old k).register) line l) (with_at-same (λ k. (old k).way) line l)

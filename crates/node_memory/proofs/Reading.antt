@@ -15,6 +15,7 @@ use Rattle.memory_contracts.specs.Store.{value_at}
 use Rattle.miss_registers.specs.Misses.{victim_of}
 use Rattle.node_memory.specs.Nodes.{NodeView, byte_in, copy_of, kept_as, line_at, read_of}
 use Rattle.node_memory.specs.Sound.{IsSound}
+use Rattle.node_memory.proofs.Below.{CacheLaws}
 use Rattle.node_memory.proofs.Held.{copies_of, held-copy}
 use Rattle.node_memory.proofs.LineViews.{LineView}
 use Rattle.node_memory.proofs.Touching.{alike-touched, view-alike}
@@ -59,15 +60,15 @@ bytes-kept (Some copy) slot bytes is = by copy.owned ∙ (let same : copy.bytes 
     by true = refl
     by false = refl
 
-pub read-value : (v : NodeView) (a : ℕ) (n : Size) (bytes : List ℕ) → IsSound v → a % count_of n ≡ 0 →
+pub read-value : CacheLaws → (v : NodeView) (a : ℕ) (n : Size) (bytes : List ℕ) → IsSound v → a % count_of n ≡ 0 →
     option_map (λ (c : LineCopy). c.bytes) (level.copy_of (line_at v a) (touched_levels (line_at v a) v.levels)) ≡ Some bytes →
     value_at (slice_index bytes) (a % v.levels.line_bytes) (count_of n) ≡ value_at (byte_in v) a (count_of n)
-read-value v a n bytes sound aligned is =
+read-value laws v a n bytes sound aligned is =
     let line = line_at v a in
     let size = sound.levels.line_bytes in
     let low = size.low in
     let fits = aligned-fits v.levels.line_bytes a n size aligned in
-    let view = view-alike v.levels (touched_levels line v.levels) v.misses line (alike-touched line v.levels (touched_line line v.levels.first) sound.levels.second) in
+    let view = view-alike v.levels (touched_levels line v.levels) v.misses line (alike-touched laws line v.levels (touched_line line v.levels.first) sound.levels.second) in
     let there = bytes-kept (level.copy_of line v.levels) (victim_of v.misses line) bytes (sym (ap (λ (x : LineView). option_map (λ (c : LineCopy). c.bytes) x.copy) view) ∙ is) in
     value-agrees (slice_index bytes) (byte_in v) (a % v.levels.line_bytes) a (count_of n)
     (λ k below. ap (λ (bs : List ℕ). slice_index bs (a % v.levels.line_bytes + k)) (sym there) ∙ sym (byte-behind v a k (omega (arith, low)) (omega (arith, fits, below))))
@@ -76,10 +77,10 @@ pub read-near : (v : NodeView) (a : ℕ) (n : Size) → near (line_at v a) v.lev
 read-near v a n there = ap {B = Option ℕ} (λ b. cond b (Some (value_at (byte_in v) a (count_of n))) None) there
 
 -- a line that is near has bytes
-pub near-has_bytes : (line : ℕ) (v : NodeView) → IsSound v → near line v.levels ≡ true → option_map (λ (c : LineCopy). c.bytes) (level.copy_of line (touched_levels line v.levels)) ≡ None → ⊥
-near-has_bytes line v sound there none =
-    let held : is_some (level.copy_of line v.levels) ≡ true = sym (held-copy line v.levels (copies_of v.levels sound.levels)) ∙ sound.levels.near_is_held line there in
-    let view = view-alike v.levels (touched_levels line v.levels) v.misses line (alike-touched line v.levels (touched_line line v.levels.first) sound.levels.second) in
+pub near-has_bytes : CacheLaws → (line : ℕ) (v : NodeView) → IsSound v → near line v.levels ≡ true → option_map (λ (c : LineCopy). c.bytes) (level.copy_of line (touched_levels line v.levels)) ≡ None → ⊥
+near-has_bytes laws line v sound there none =
+    let held : is_some (level.copy_of line v.levels) ≡ true = sym (held-copy line v.levels (copies_of laws v.levels sound.levels)) ∙ sound.levels.near_is_held line there in
+    let view = view-alike v.levels (touched_levels line v.levels) v.misses line (alike-touched laws line v.levels (touched_line line v.levels.first) sound.levels.second) in
     by (level.copy_of line v.levels) held (sym (ap (λ (x : LineView). option_map (λ (c : LineCopy). c.bytes) x.copy) view) ∙ none)
   where
     by : (copy : Option LineCopy) → is_some copy ≡ true → option_map (λ (c : LineCopy). c.bytes) copy ≡ None → ⊥

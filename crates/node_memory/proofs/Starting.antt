@@ -6,19 +6,17 @@ use Rattle.rsim_base.specs.declared.memory.Line.{Line}
 use Rattle.cache_sets.specs.Caches.{reserved_slot, room_for, slot_of, with_reserved}
 use Rattle.cache_sets.specs.Lookups.{is_victim}
 use Rattle.cache_sets.specs.Ways.{Way}
-use Rattle.cache_sets.proofs.Looking.{LooksUp-with_held, LooksUp-with_reserved}
 use Rattle.cache_levels.specs.Levels as level
 use Rattle.cache_levels.specs.Levels.{LevelsView, copy_at, evicted_as, held_way, with_room, without_victim}
 use Rattle.cache_levels.specs.declared.levels.Evicted.{Evicted}
 use Rattle.cache_levels.specs.declared.levels.LineCopy.{LineCopy}
-use Rattle.cache_levels.proofs.Copying.{copy_in}
 use Rattle.memory_contracts.specs.Updates.{with_at}
 use Rattle.miss_registers.specs.Misses.{MissView, register_of, victim_of, with_register, with_victim}
 use Rattle.miss_registers.specs.OneLine.{register_of-with_register, victim_of-with_victim}
 use Rattle.node_memory.specs.Starting.{slots_with}
 use Rattle.node_memory.proofs.Fits.{AreFit, IsFit, owned_in}
-use Rattle.node_memory.proofs.Held.{AreCopies, copy-held}
-use Rattle.node_memory.proofs.LineViews.{LineView, line_view, none-from, view-with_at, with_at-map, with_at-same}
+use Rattle.node_memory.proofs.Held.{AreCopies, copy-held, copy_in}
+use Rattle.node_memory.proofs.LineViews.{LineView, line_view, view-with_at, with_at-map, with_at-same}
 use Rattle.node_memory.proofs.Victims.{victim-leaves}
 
 -- ---- the line that is asked for
@@ -34,7 +32,7 @@ pub view-held_way : (line slot l : ℕ) (own : Bool) (levels : LevelsView) (miss
     line_view (held_way line levels) (with_register line own misses) l ≡ with_at (line_view levels misses) line (asked own (Some slot) (line_view levels misses line)) l
 view-held_way line slot l own levels misses sound is =
     let old = line_view levels misses in
-    let looks = LooksUp-with_held line slot levels.second is sound.second in
+    let looks = sound.laws.hold line slot levels.second sound.second is in
     view-with_at old line (asked own (Some slot) (old line)) (line_view (held_way line levels) (with_register line own misses) l) l
     (ap (copy_in levels.copies) (looks.slot l) ∙ with_at-same (λ k. (old k).copy) line l) (with_at-same (λ k. (old k).slot) line l) (register_of-with_register line own misses l)
     (looks.reserved l ∙ ap (λ o. with_at (λ k. (old k).way) line o l) is)
@@ -100,6 +98,10 @@ victim-kept : (q : ℕ) (b : Bool) (victim : ℕ) (bytes : List ℕ) (misses : M
 victim-kept q true victim bytes misses = victim_of-with_victim victim (Some bytes) misses q
 victim-kept q false victim bytes misses = with_at-same (victim_of misses) victim q
 
+none-from : (b : Bool) (copies : List LineCopy) (slot : Option ℕ) → copy_in copies (cond b None slot) ≡ cond b None (copy_in copies slot)
+none-from true copies slot = refl
+none-from false copies slot = refl
+
 -- the levels with room, by the way that there is
 abbrev pub room_at : ℕ → LevelsView → Option Way → LevelsView
 room_at line levels room = option_map_or (λ way. record levels { first = without_victim way.line levels.first; second = with_reserved line levels.second }) room levels
@@ -121,14 +123,14 @@ view-room line l own way mark levels misses sound unreserved room is = ap (λ o.
 
     copy-left : (mark : Option ℕ) → way.line ≡ mark → level.copy_of l after ≡ cond (is_victim l (Some (record way { line = mark }))) None (level.copy_of l levels)
     copy-left mark is =
-        ap (copy_in levels.copies) ((LooksUp-with_reserved line levels.second unreserved sound.second).slot l)
+        ap (copy_in levels.copies) ((sound.laws.reserve line levels.second sound.second unreserved).slot l)
         ∙ (none-from (is_victim l (room_for line levels.second)) levels.copies (slot_of l levels.second)
         ∙ ap (λ o. cond (is_victim l o) None (level.copy_of l levels)) room
         ∙ ap (λ m. cond (is_victim l (Some (record way { line = m }))) None (level.copy_of l levels)) is)
 
     way-kept : (base : ℕ → LineView) → ((k : ℕ) → (base k).way ≡ (old k).way) → reserved_slot l after.second ≡ with_at (λ k. (base k).way) line (Some way.slot) l
     way-kept base same =
-        (LooksUp-with_reserved line levels.second unreserved sound.second).reserved l
+        (sound.laws.reserve line levels.second sound.second unreserved).reserved l
         ∙ ap (λ o. with_at (λ k. (old k).way) line (option_map (λ (w : Way). w.slot) o) l) room
         ∙ ap (λ o. cond (l == line) (Some way.slot) o) (sym (same l))
 

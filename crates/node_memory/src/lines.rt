@@ -6,6 +6,7 @@ ghost use Rattle.cache_levels.specs.Sound.{AreSound};
 ghost use Rattle.cache_sets.specs.Caches.{reserved_slot};
 ghost use Rattle.miss_registers.specs.Misses.{register_of, registers_full, victim_of, with_register};
 
+use crate::laws::caches_follow;
 use crate::table::{Change, NodeCopy};
 use cache_levels::{Evicted, Levels};
 use machine_config::Config;
@@ -42,6 +43,16 @@ impl Lines {
             levels: Levels::make(alloc, config)?,
             misses: MissRegisters::make(alloc, config.miss_registers)?,
         })
+    }
+
+    /// Whether a line is held: whether there is a copy of it.
+    pub fn hold(&self, line: Line) -> bool
+        requires { AreSound self.now.levels }
+        ensures held { result ≡ level.held line.0 self.now.levels }
+        ensures copy { result ≡ is_some (level.copy_of line.0 self.now.levels) }
+    {
+        caches_follow();
+        self.levels.hold(line)
     }
 
     /// What there is of a line.
@@ -96,7 +107,7 @@ impl Lines {
         requires { AreSound self.now.levels }
         ensures { result ≡ meets wish.own (kept_as (level.copy_of wish.line.0 self.now.levels) (victim_of self.now.misses wish.line.0)) }
     {
-        self.levels.hold(wish.line) && (!wish.own || self.levels.own(wish.line))
+        self.hold(wish.line) && (!wish.own || self.levels.own(wish.line))
     }
 
     /// Whether a line is leaving, or awaited, or no register is free.
@@ -104,7 +115,7 @@ impl Lines {
         requires { AreSound self.now.levels }
         ensures { result ≡ (is_leaving (kept_as (level.copy_of line.0 self.now.levels) (victim_of self.now.misses line.0)) || is_some (register_of self.now.misses line.0) || registers_full self.now.misses) }
     {
-        (!self.levels.hold(line) && self.misses.has_slot(line))
+        (!self.hold(line) && self.misses.has_slot(line))
             || self.misses.merge(line, false)
             || self.misses.is_full()
     }

@@ -14,6 +14,7 @@ ghost use Rattle.node_memory.specs.Sound.{AreBefore, IsSound};
 ghost use Rattle.node_memory.specs.declared.word.Word.TheVariants.{Get};
 
 use crate::coming::Coming;
+use crate::laws::caches_follow;
 use crate::lines::Lines;
 use crate::outbox::Outbox;
 use crate::table::Row;
@@ -35,7 +36,7 @@ pub struct NodeMemory {
     nodes: u32,
     latency: u32,
     line_bytes: u64,
-    lines: Lines,
+    pub(crate) lines: Lines,
     wishes: WishList,
     coming: Coming,
     outbox: Outbox,
@@ -85,6 +86,7 @@ impl NodeMemory {
         ensures after { node_of self.new ≡ after_message (letter_of m.now) (node_of self.old) }
         ensures lost { lost.new.items ≡ lost.old.items ++ left_from (node_of self.old).at (lost_at (letter_of m.now) (node_of self.old)) }
     {
+        caches_follow();
         let copy = self.lines.copy(m.line);
         let row = Row::at(m, &copy);
         self.lines.change(m.line, &row.change);
@@ -114,6 +116,7 @@ impl NodeMemory {
     fn bring_near(&mut self, now: u64)
         ensures { node_of self.new ≡ arrived now (node_of self.old) }
     {
+        caches_follow();
         self.coming
             .arrive(&mut self.lines.levels, self.latency, now);
     }
@@ -155,7 +158,7 @@ impl NodeMemory {
     {
         self.lines.is_busy(wish.line)
             || !self.outbox.has_places(2)
-            || (!self.lines.levels.hold(wish.line) && self.lines.lacks_way(wish.line))
+            || (!self.lines.hold(wish.line) && self.lines.lacks_way(wish.line))
     }
 
     // Starts a wish that need not wait.
@@ -167,7 +170,7 @@ impl NodeMemory {
         ensures after { node_of self.new ≡ (starts (wish_of wish) (node_of self.old)).after }
         ensures lost { lost.new.items ≡ lost.old.items ++ left_from (node_of self.old).at (starts (wish_of wish) (node_of self.old)).lost }
     {
-        if self.lines.levels.hold(wish.line) {
+        if self.lines.hold(wish.line) {
             self.start_shared(wish);
             return true;
         }
@@ -181,6 +184,7 @@ impl NodeMemory {
         requires held { IsTrue (held wish.line.0 (node_of self.old).levels) }
         ensures { node_of self.new ≡ (starts_shared (wish_of wish) (node_of self.old)).after }
     {
+        caches_follow();
         self.lines.levels.hold_way(wish.line);
         ask(&mut self.lines.misses, &mut self.outbox, wish);
     }
@@ -195,6 +199,7 @@ impl NodeMemory {
         ensures after { node_of self.new ≡ (starts (wish_of wish) (node_of self.old)).after }
         ensures lost { lost.new.items ≡ lost.old.items ++ left_from (node_of self.old).at (starts (wish_of wish) (node_of self.old)).lost }
     {
+        caches_follow();
         let Some(evicted) = self.lines.make_room(wish.line) else {
             return false;
         };
@@ -210,6 +215,7 @@ impl NodeMemory {
         ensures value { result ≡ read_of (node_of self.old) a.0 n }
         ensures after { node_of self.new ≡ after_read a.0 (node_of self.old) }
     {
+        caches_follow();
         let line = line_of(a, self.line_bytes);
         if !self.lines.levels.near(line) {
             return None;
@@ -226,6 +232,7 @@ impl NodeMemory {
         ensures value { result ≡ owned (line_at (node_of self.old) a.0) (node_of self.old).levels }
         ensures after { node_of self.new ≡ after_write a.0 n v (node_of self.old) }
     {
+        caches_follow();
         let line = line_of(a, self.line_bytes);
         if !self.lines.levels.own(line) {
             return false;

@@ -38,13 +38,6 @@ impl Outbox {
         }
     }
 
-    /// How many there are.
-    pub fn len(&self) -> usize
-        ensures { result ≡ length self.now.posts.items }
-    {
-        self.posts.len()
-    }
-
     /// Whether one more may be put in, and that many after it.
     pub fn has_places(&self, places: usize) -> bool
         requires { places ≤ 1024 }

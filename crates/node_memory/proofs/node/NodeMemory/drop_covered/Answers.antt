@@ -2,7 +2,7 @@ use Rattle.std.proofs.Common.{List, ◌≤◌, length, sym, subst}
 use Rattle.memory_contracts.specs.Store.{Wish, most_wishes}
 use Rattle.node_memory.specs.NodeViews.{node_of}
 use Rattle.node_memory.specs.Noted.{wishes_in}
-use Rattle.node_memory.proofs.Fits.{fit-sound, sound-with}
+use Rattle.node_memory.proofs.Fits.{sound-waiting}
 use Rattle.node_memory.proofs.Wishing.{uncovered-few}
 use Rattle.node_memory.proofs.node.NodeMemory.drop_covered.Goals as goal
 
@@ -11,4 +11,4 @@ invariant_of-self c =
     let s = c.args.self.now in
     let v = node_of s in
     let few = subst (λ (ws : List Wish). length ws ≤ most_wishes) (sym c.drop_covered.ensures) (uncovered-few v.misses v.wishes most_wishes s.sound.wishes) in
-    record { sound = sound-with v v.levels v.misses (wishes_in c.drop_covered.new.self) v.coming v.outbox s.sound s.sound.levels (fit-sound v s.sound) few s.sound.coming s.sound.outbox; bytes = s.bytes }
+    record { sound = sound-waiting v (wishes_in c.drop_covered.new.self) v.coming s.sound few s.sound.coming; bytes = s.bytes }

@@ -23,5 +23,5 @@ returns-else-not-hold c =
           let room = leb-true (length s.outbox.posts.items + 2) 1024 (sym x.has_places.ensures ∙ not-false x.has_places.result (sym x.value-is ∙ c.if-not-has_places.false)) in
           let count = length-map s.outbox.posts.items (mail_of s.nodes) in
           let places : length v.outbox + 2 ≤ 1024 = omega (arith, room, count) in
-          ap not c.if-not-hold.false ∙ sym (waits-not w v s.sound.levels (sym c.hold.ensures ∙ c.if-not-hold.false) places free)
+          ap not c.if-not-hold.false ∙ sym (waits-not w v (sym c.hold.ensures.copy ∙ c.if-not-hold.false) places free)
     ]

@@ -9,6 +9,7 @@ use Rattle.node_memory.specs.Starting.{Begun, slots_with, starts_absent}
 use Rattle.node_memory.specs.declared.outbox.Post.{Post}
 use Rattle.node_memory.specs.declared.word.Word.TheVariants.{Get}
 use Rattle.node_memory.proofs.Beginning.{MayBegin, begin-absent, evicted-absent, evicted-slotless, line_bytes-room, places-for, sound-absent, starts-absent}
+use Rattle.node_memory.proofs.Below.{CacheLaws}
 use Rattle.node_memory.proofs.Fits.{fit-sound}
 use Rattle.node_memory.proofs.Held.{copies_of}
 use Rattle.node_memory.proofs.Mails.{asks-is, mails-absent}
@@ -17,12 +18,13 @@ use Rattle.node_memory.proofs.node.NodeMemory.start_absent.Goals as goal
 
 pub make_room-requires-clause-slotless : goal.make_room-requires-clause-slotless
 make_room-requires-clause-slotless c =
+    let laws : CacheLaws = assumption in
     let s = c.args.self.now in
     let v = node_of s in
     let w = wish_of c.args.wish in
     let may : MayBegin w v = record { unmet = c.requires.unmet; ready = c.requires.ready } in
-    let copies = copies_of v.levels s.sound.levels in
-    evicted-slotless w v copies (fit-sound v s.sound) (begin-absent w v copies may c.requires.absent)
+    let copies = copies_of laws v.levels s.sound.levels in
+    evicted-slotless w v copies (fit-sound laws v s.sound) (begin-absent w v copies may c.requires.absent)
 
 pub put_back-requires-clause-room : goal.put_back-requires-clause-room
 put_back-requires-clause-room c =
@@ -40,11 +42,12 @@ ask-requires-clause-room c =
 
 pub invariant_of-self-2 : goal.invariant_of-self-2
 invariant_of-self-2 c =
+    let laws : CacheLaws = assumption in
     let s = c.args.self.now in
     let v = node_of s in
     let w = wish_of c.args.wish in
     let may : MayBegin w v = record { unmet = c.requires.unmet; ready = c.requires.ready } in
-    let absent = begin-absent w v (copies_of v.levels s.sound.levels) may c.requires.absent in
+    let absent = begin-absent w v (copies_of laws v.levels s.sound.levels) may c.requires.absent in
     let told = told_of v.levels.copies absent.way.slot absent.way.line in
     let some : Some c.in-Some.evicted ≡ Some told = sym c.in-Some.is ∙ (c.make_room.ensures.evicted ∙ evicted-absent w v absent) in
     let same : c.in-Some.evicted ≡ told = cc in
@@ -54,17 +57,18 @@ invariant_of-self-2 c =
     let count' = length-map c.ask.new.outbox.posts.items (mail_of s.nodes) in
     let more = simp length-append at (ap length c.ask.ensures.posts) in
     record {
-      sound = sound-absent w v c.make_room.new.self.levels c.ask.new.misses (mails_in s.nodes c.ask.new.outbox) s.sound absent c.make_room.ensures.levels misses c.make_room.ensures.sound (omega (arith, places, count, count', more, c.put_back.ensures.few));
+      sound = sound-absent laws w v c.make_room.new.self.levels c.ask.new.misses (mails_in s.nodes c.ask.new.outbox) s.sound absent c.make_room.ensures.levels misses c.make_room.ensures.sound (omega (arith, places, count, count', more, c.put_back.ensures.few));
       bytes = ap (λ l. l.line_bytes) c.make_room.ensures.levels ∙ (line_bytes-room w v absent ∙ s.bytes);
     }
 
 pub returns-clause-after : goal.returns-clause-after
 returns-clause-after c =
+    let laws : CacheLaws = assumption in
     let s = c.args.self.now in
     let v = node_of s in
     let w = wish_of c.args.wish in
     let may : MayBegin w v = record { unmet = c.requires.unmet; ready = c.requires.ready } in
-    let absent = begin-absent w v (copies_of v.levels s.sound.levels) may c.requires.absent in
+    let absent = begin-absent w v (copies_of laws v.levels s.sound.levels) may c.requires.absent in
     let told = told_of v.levels.copies absent.way.slot absent.way.line in
     let some : Some c.in-Some.evicted ≡ Some told = sym c.in-Some.is ∙ (c.make_room.ensures.evicted ∙ evicted-absent w v absent) in
     let misses = c.ask.ensures.misses ∙ ap (with_register w.line w.own) c.in-Some.ensures.misses in
