@@ -14,6 +14,7 @@ mod Meanings
 pub mod Moving
 pub mod NodeLaws
 pub mod NodeRights
+mod Messages
 mod PartRows
 pub mod Places
 mod Posting

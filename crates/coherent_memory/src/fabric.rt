@@ -36,7 +36,7 @@ impl<C: Carrier> Fabric<C> {
     ghost use Rattle.coherent_memory.specs.Lost.{AreGoneFrom};
     ghost use Rattle.coherent_memory.specs.Rooms.{Grows};
     ghost use Rattle.coherent_memory.specs.Sending.{MailsOne, PostsOne};
-    ghost use Rattle.coherent_memory.specs.Turns.{HasTicked, HomeSends, NodeSends, Receives, ServesAll, Turn, begun, lost_at_begin, with_home};
+    ghost use Rattle.coherent_memory.specs.Turns.{HasTicked, HomeSends, NodeSends, Receives, ServesAll, Turn, begun, lost_at_begin, rooms, with_home, with_node};
 
     // Node `p` begins its part of a tick.
     fn begin(&mut self, p: Node, now: u64, lost: &mut LostList)
@@ -58,7 +58,7 @@ impl<C: Carrier> Fabric<C> {
         ensures received { (told : List _) × Receives p.0 now (system_of C.meaning self.old) (system_of C.meaning self.new) told × (lost.new.items ≡ lost.old.items ++ told) }
         ensures count { self.new.count ≡ self.old.count }
     {
-        if !self.homes.room(p) || !self.nodes.room(p) {
+        if !self.has_room(p) {
             return;
         }
         steps_keep_lines();
@@ -73,6 +73,14 @@ impl<C: Carrier> Fabric<C> {
         } else {
             self.nodes.take(p, &m, lost);
         }
+    }
+
+    // Whether node `p` and its home have room for a message.
+    fn has_room(&self, p: Node) -> bool
+        requires { p.0 < self.now.count }
+        ensures { result ≡ rooms p.0 (system_of C.meaning self.now) }
+    {
+        self.homes.room(p) && self.nodes.room(p)
     }
 
     // The home of node `p` serves what waits for a line, as long as the line is idle.
