@@ -15,6 +15,7 @@ pub mod Moving
 pub mod NodeLaws
 pub mod NodeRights
 mod Messages
+mod Nearness
 mod PartRows
 pub mod Places
 mod Posting

@@ -26,7 +26,7 @@ use Rattle.directory.specs.Start as home
 use Rattle.miss_registers.specs.Misses.{victim_of}
 use Rattle.node_memory.specs.Nodes.{NodeView, awaits, copy_of, empty_node, kept_as, no_misses}
 use Rattle.coherent_memory.specs.Fine.{IsFine, IsRightFlight, IsRightLetter, IsRightMail, IsRightNode, IsRightPost}
-use Rattle.coherent_memory.specs.Lost.{holds as node_holds}
+use Rattle.coherent_memory.specs.First.{IsFirst}
 use Rattle.coherent_memory.specs.Stores as store
 use Rattle.coherent_memory.specs.Stores.{Shape, store_of}
 use Rattle.coherent_memory.specs.Systems.{System, alone, between, content, home_at, home_number, is_kept, line_of, of_flight, of_letter, of_mail, of_post}
@@ -67,11 +67,6 @@ nothing-empty config p = record {
 }
 
 -- ---- all of memory
-
-pub record IsFirst (image : ImageView) (config : Config) (s : System) : Type 0 where
-  pub homes : (p : ℕ) → p < config.processors → home.IsStart image config p (s.homes p)
-  pub nodes : (p : ℕ) → p < config.processors → s.nodes p ≡ empty_node config p
-  pub flights : s.carrier.flights ≡ []
 
 module _ (stay : LinesStayCoherent) (order : OrderIsFree) (current : CurrentIsContent) (image : ImageView) (config : Config) (s : System) (some : 0 < config.processors) (first : IsFirst image config s) where
   home_below : (l : ℕ) → home_number config.processors l < config.processors

@@ -7,9 +7,9 @@ use Rattle.memory_contracts.specs.Said.{Mail, letter_of, said}
 use Rattle.memory_contracts.specs.Store.{Wish}
 use Rattle.memory_contracts.specs.declared.message.Message.{Message}
 use Rattle.cache_levels.specs.Bytes.{written_at}
-use Rattle.cache_levels.specs.Levels.{owned}
+use Rattle.cache_levels.specs.Levels.{near, owned}
 use Rattle.directory.specs.Homes.{HomeView, Serves, home_after}
-use Rattle.node_memory.specs.Nodes.{NodeView, after_write, awaits, line_at}
+use Rattle.node_memory.specs.Nodes.{NodeView, after_read, after_write, awaits, line_at}
 use Rattle.node_memory.specs.Rows.{is_grant}
 use Rattle.node_memory.specs.Sides.{side_of}
 use Rattle.node_memory.specs.Sound.{IsSound}
@@ -121,3 +121,12 @@ WritingKeeps =
     → IsSound (s.nodes p)
     → owned (line_at (s.nodes p) a) (s.nodes p).levels ≡ true
     → HasWritten n a size value (s.nodes p) s (with_node p (after_write a size value (s.nodes p)) s)
+
+-- ---- what is near
+
+-- a read and a write leave what is near
+abbrev pub NearAfterRead : Type 0
+NearAfterRead = (a l : ℕ) (v : NodeView) → IsSound v → near l (after_read a v).levels ≡ near l v.levels
+
+abbrev pub NearAfterWrite : Type 0
+NearAfterWrite = (a l : ℕ) (size : Size) (value : ℕ) (v : NodeView) → IsSound v → near l (after_write a size value v).levels ≡ near l v.levels

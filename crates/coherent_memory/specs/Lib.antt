@@ -1,6 +1,7 @@
 pub mod FabricViews
 pub mod Fabrics
 pub mod Fine
+pub mod First
 pub mod HomeRows
 pub mod Laws
 pub mod Lost
@@ -11,3 +12,4 @@ pub mod Sending
 pub mod Stores
 pub mod Systems
 pub mod Turns
+pub mod Wholes

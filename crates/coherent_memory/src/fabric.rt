@@ -1,22 +1,26 @@
 // The homes, the nodes, and what carries messages between them.
-ghost use Rattle.std.specs.Prelude.{◌≡◌, ◌≢◌, ℕ, suc, ◌+◌, ◌*◌, ◌<◌, ◌≤◌, ◌++◌, List, length, true, false};
+ghost use Rattle.std.specs.Prelude.{◌≡◌, ℕ, ◌+◌, ◌*◌, ◌%◌, ◌<◌, ◌≤◌, [], ◌++◌, List, length, true, IfOk};
 ghost use Rattle.arrayvec.specs.ArrayVec.{array_vec_len};
 ghost use Rattle.rsim_base.specs.Bytes.{count_of};
 ghost use Rattle.memory_contracts.specs.Carrier.{CarrierTicks};
 ghost use Rattle.memory_contracts.specs.Protocol.Events.{is_to_home};
 ghost use Rattle.memory_contracts.specs.Said.{said};
 ghost use Rattle.directory.specs.Homes.{HomeView, Serves};
+ghost use Rattle.cache_levels.specs.Levels.{near, owned};
+ghost use Rattle.node_memory.specs.Nodes.{after_read, after_wish, after_write, line_at, read_of, takes_wish};
 ghost use Rattle.node_memory.specs.Sound.{AreBefore};
 ghost use Rattle.coherent_memory.specs.Fabrics.{system_with};
-ghost use Rattle.coherent_memory.specs.Fine.{IsFine};
+ghost use Rattle.coherent_memory.specs.Fine.{HasKept, IsFine};
 ghost use Rattle.coherent_memory.specs.HomeRows.{home_count};
 ghost use Rattle.coherent_memory.specs.NodeRows.{node_count};
+ghost use Rattle.coherent_memory.specs.Systems.{is_kept};
 
 use crate::homes::Homes;
 use crate::laws::{nodes_keep_lines, rooms_suffice, steps_keep_lines, turns_tell};
 use crate::nodes::Nodes;
 use memory_contracts::{Carrier, Class, LostList, Message};
-use rsim_base::{Line, Node};
+use node_memory::tables_follow;
+use rsim_base::{Addr, Line, Node, Size};
 
 /// The homes, the nodes, and what carries messages between them.
 pub struct Fabric<C: Carrier> {
@@ -33,10 +37,10 @@ pub struct Fabric<C: Carrier> {
 
 impl<C: Carrier> Fabric<C> {
     ghost use Rattle.coherent_memory.specs.FabricViews.{system_of};
-    ghost use Rattle.coherent_memory.specs.Lost.{AreGoneFrom};
+    ghost use Rattle.coherent_memory.specs.Lost.{AreGone, AreGoneBelow, AreGoneFrom};
     ghost use Rattle.coherent_memory.specs.Rooms.{Grows};
     ghost use Rattle.coherent_memory.specs.Sending.{MailsOne, PostsOne};
-    ghost use Rattle.coherent_memory.specs.Turns.{HasTicked, HomeSends, NodeSends, Receives, ServesAll, Turn, begun, lost_at_begin, rooms, with_home, with_node};
+    ghost use Rattle.coherent_memory.specs.Turns.{HasTicked, HomeSends, NodeSends, Receives, ServesAll, Turn, Turns, begun, lost_at_begin, rooms, with_home, with_node};
 
     // Node `p` begins its part of a tick.
     fn begin(&mut self, p: Node, now: u64, lost: &mut LostList)
@@ -172,6 +176,93 @@ impl<C: Carrier> Fabric<C> {
         self.receive(p, now, lost);
         self.send_posts(p, now);
         self.send_mails(p);
+    }
+
+    // The turns of all nodes in tick `now`, one after the other.
+    fn turns(&mut self, now: u64, lost: &mut LostList)
+        requires none { lost.old.items ≡ [] }
+        requires later { (q : ℕ) → q < self.old.count → AreBefore now ((system_of C.meaning self.old).nodes q).coming }
+        ensures turns { Turns now (system_of C.meaning self.old) self.old.count (system_of C.meaning self.new) lost.new.items }
+        ensures gone { ∥ AreGoneBelow self.old.count (system_of C.meaning self.old) (system_of C.meaning self.new) lost.new.items ∥₁ }
+        ensures count { self.new.count ≡ self.old.count }
+    {
+        turns_tell();
+        for p in 0..self.count {
+            self.turn(Node(p as u8), now, lost);
+        }
+    }
+
+    /// Lets each node have its turn in tick `now`, one after the other, and then the carrier tick. Afterwards `lost` has the
+    /// lines that left nodes that held them.
+    pub fn tick(&mut self, now: u64, lost: &mut LostList)
+        requires few { (system_of C.meaning self.old).carrier.ticks < 4294967295 }
+        requires later { (q : ℕ) → q < self.old.count → AreBefore now ((system_of C.meaning self.old).nodes q).coming }
+        ensures ticked { HasTicked self.old.count now (system_of C.meaning self.old) (system_of C.meaning self.new) lost.new.items }
+        ensures gone { ∥ AreGone (system_of C.meaning self.old) (system_of C.meaning self.new) lost.new.items ∥₁ }
+        ensures kept { ∥ HasKept self.old.count (system_of C.meaning self.old) (system_of C.meaning self.new) ∥₁ }
+        ensures count { self.new.count ≡ self.old.count }
+    {
+        steps_keep_lines();
+        nodes_keep_lines();
+        lost.clear();
+        self.turns(now, lost);
+        self.carrier.tick();
+    }
+
+    /// What node `p` reads: the value of `n` bytes at a multiple of `n`, where their line is near.
+    pub fn read(&mut self, p: Node, a: Addr, n: Size) -> Option<u64>
+        requires node { p.0 < self.old.count }
+        requires aligned { a.0 % count_of n ≡ 0 }
+        ensures value { result ≡ read_of ((system_of C.meaning self.old).nodes p.0) a.0 n }
+        ensures after { system_of C.meaning self.new ≡ with_node p.0 (after_read a.0 ((system_of C.meaning self.old).nodes p.0)) (system_of C.meaning self.old) }
+        ensures kept { ∥ HasKept self.old.count (system_of C.meaning self.old) (system_of C.meaning self.new) ∥₁ }
+        ensures count { self.new.count ≡ self.old.count }
+    {
+        tables_follow();
+        steps_keep_lines();
+        self.nodes.read(p, a, n)
+    }
+
+    /// Node `p` stores the low `n` bytes of a value at a multiple of `n`, where it owns their line.
+    pub fn write(&mut self, p: Node, a: Addr, n: Size, v: u64) -> bool
+        requires node { p.0 < self.old.count }
+        requires aligned { a.0 % count_of n ≡ 0 }
+        ensures value { result ≡ owned (line_at ((system_of C.meaning self.old).nodes p.0) a.0) ((system_of C.meaning self.old).nodes p.0).levels }
+        ensures after { system_of C.meaning self.new ≡ with_node p.0 (after_write a.0 n v ((system_of C.meaning self.old).nodes p.0)) (system_of C.meaning self.old) }
+        ensures count { self.new.count ≡ self.old.count }
+    {
+        nodes_keep_lines();
+        self.nodes.write(p, a, n, v)
+    }
+
+    /// Node `p` asks for a line that a home keeps.
+    pub fn wish(&mut self, p: Node, line: Line, own: bool) -> bool
+        requires node { p.0 < self.old.count }
+        requires line { is_kept self.old.count (system_of C.meaning self.old) line.0 ≡ true }
+        ensures value { result ≡ takes_wish ((system_of C.meaning self.old).nodes p.0) line.0 own }
+        ensures after { system_of C.meaning self.new ≡ with_node p.0 (after_wish line.0 own ((system_of C.meaning self.old).nodes p.0)) (system_of C.meaning self.old) }
+        ensures kept { ∥ HasKept self.old.count (system_of C.meaning self.old) (system_of C.meaning self.new) ∥₁ }
+        ensures count { self.new.count ≡ self.old.count }
+    {
+        tables_follow();
+        steps_keep_lines();
+        self.nodes.wish(p, line, own)
+    }
+
+    /// Whether node `p` may read a line now.
+    pub fn is_near(&self, p: Node, line: Line) -> bool
+        requires { p.0 < self.now.count }
+        ensures { result ≡ near line.0 ((system_of C.meaning self.now).nodes p.0).levels }
+    {
+        self.nodes.is_near(p, line)
+    }
+
+    /// Whether node `p` may write a line now.
+    pub fn is_owned(&self, p: Node, line: Line) -> bool
+        requires { p.0 < self.now.count }
+        ensures { result ≡ owned line.0 ((system_of C.meaning self.now).nodes p.0).levels }
+    {
+        self.nodes.is_owned(p, line)
     }
 }
 

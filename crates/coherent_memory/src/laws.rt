@@ -2,8 +2,9 @@
 
 ghost use Rattle.coherent_memory.specs.Lost.{TurnTells, TurnsTell};
 ghost use Rattle.coherent_memory.specs.Rooms.{RoomStays, ServingGrows, ServingShortens, StartGrows, TakingGrows};
-ghost use Rattle.coherent_memory.specs.Laws.{BeginKeeps, CarryingKeeps, GrantsAwaited, HomeTakesKeeps, MailKeeps, NodeTakesKeeps, NothingKeeps, PostKeeps, ServingKeeps, WritingKeeps};
+ghost use Rattle.coherent_memory.specs.Laws.{BeginKeeps, CarryingKeeps, GrantsAwaited, HomeTakesKeeps, MailKeeps, NearAfterRead, NearAfterWrite, NodeTakesKeeps, NothingKeeps, PostKeeps, ServingKeeps, WritingKeeps};
 
+use cache_sets::{lines_are_apart, look_ups_follow};
 use memory_contracts::lines_stay_coherent;
 use node_memory::tables_follow;
 
@@ -49,4 +50,13 @@ pub fn turns_tell()
     steps_keep_lines();
     nodes_keep_lines();
     tables_follow();
+}
+
+/// Reading and writing leave what is near.
+pub fn nearness_stays()
+    ensures read { NearAfterRead }
+    ensures write { NearAfterWrite }
+{
+    lines_are_apart();
+    look_ups_follow();
 }
