@@ -1,15 +1,18 @@
+mod Accessing
 pub mod Adding
 mod Addresses
 pub mod Alike
 pub mod Awaiting
 pub mod Beginning
 pub mod Counting
+mod Gone
 pub mod HomeSteps
 pub mod Keeping
 pub mod Leaving
 pub mod Lines
 pub mod Lost
 pub mod Fabrics
+pub mod Kept
 mod Meanings
 pub mod Moving
 pub mod NodeLaws

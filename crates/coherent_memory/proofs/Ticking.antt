@@ -15,7 +15,7 @@ use Rattle.coherent_memory.specs.Stores.{Shape, store_of}
 use Rattle.coherent_memory.specs.Systems.{System}
 use Rattle.coherent_memory.specs.Turns.{HasTicked, Turns, before, next}
 use Rattle.coherent_memory.proofs.Meanings.{bytes-stay}
-use Rattle.coherent_memory.proofs.Quiet.{Lasts, turn-node, turn-others}
+use Rattle.coherent_memory.proofs.Quiet.{Lasts, turn-node, turn-others, turn-ticks}
 
 -- ---- wishes
 
@@ -37,6 +37,11 @@ pub turns-later : (now : ℕ) (s : System) (m : ℕ) (t : System) (gone : List (
 turns-later now s _ _ _ before q above = refl
 turns-later now s _ _ _ (next p t u lost more turns turn) q above =
     turn-others p q (λ same. absurd (omega (arith, same, above))) now t u more turn ∙ turns-later now s p t lost turns q (omega (arith, above))
+
+-- the carrier's time is the same
+pub turns-ticks : (now : ℕ) (s : System) (m : ℕ) (t : System) (gone : List (Node × Line)) → Turns now s m t gone → t.carrier.ticks ≡ s.carrier.ticks
+turns-ticks now s _ _ _ before = refl
+turns-ticks now s _ _ _ (next p t u lost more turns turn) = turn-ticks p now t u more turn ∙ turns-ticks now s p t lost turns
 
 -- what a turn makes of each node
 turned : (P Q : ℕ → NodeView → Type 0) (now : ℕ) (s : System) (p : ℕ) (t u : System) (q : ℕ)

@@ -1,5 +1,7 @@
 -- What each step of a tick does to the lines of memory: all stay coherent, and have the content that they had.
 use Rattle.std.specs.Prelude.{◌≡◌, ℕ, ◌%◌, ◌==◌, ◌<◌, ◌≤◌, Bool, true, false, All, List, length, if◌then◌else◌, slice_get, Option, None, Some}
+use Rattle.rsim_base.specs.declared.memory.Line.{Line}
+use Rattle.rsim_base.specs.declared.memory.Node.{Node}
 use Rattle.rsim_base.specs.declared.memory.Size.{Size}
 use Rattle.memory_contracts.specs.Carrier.{CarrierTicks, CarrierView, Flight}
 use Rattle.memory_contracts.specs.Protocol.Events.{is_to_home}
@@ -15,7 +17,7 @@ use Rattle.node_memory.specs.Sides.{side_of}
 use Rattle.node_memory.specs.Sound.{IsSound}
 use Rattle.coherent_memory.specs.Fine.{HasKept, IsFine}
 use Rattle.coherent_memory.specs.Systems.{System, content, is_kept}
-use Rattle.coherent_memory.specs.Turns.{IsSaying, begun, is_refused, next_mail, next_post, node_takes, posted, with_carrier, with_home, with_node, without_flight, without_mail, without_post}
+use Rattle.coherent_memory.specs.Turns.{IsSaying, Turn, begun, is_refused, next_mail, next_post, node_takes, posted, with_carrier, with_home, with_node, without_flight, without_mail, without_post}
 
 -- ---- messages
 
@@ -102,6 +104,17 @@ NothingKeeps =
     → v.at ≡ (s.nodes p).at
     → All (λ (w : Wish). is_kept n s w.line ≡ true) v.wishes
     → HasKept n s (with_node p v s)
+
+-- a whole turn
+abbrev pub TurnKeeps : Type 0
+TurnKeeps =
+    (n p now : ℕ) (s t : System) (gone : List (Node × Line))
+    → IsFine n s
+    → IsSound (s.nodes p)
+    → IsSound ((begun p now s).nodes p)
+    → p < n
+    → Turn p now s t gone
+    → HasKept n s t
 
 -- a write changes the content of its line alone
 abbrev pub written_in : ℕ → Size → ℕ → NodeView → (ℕ → List ℕ) → ℕ → List ℕ

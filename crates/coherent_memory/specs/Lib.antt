@@ -12,4 +12,3 @@ pub mod Sending
 pub mod Stores
 pub mod Systems
 pub mod Turns
-pub mod Wholes

@@ -2,7 +2,8 @@
 ghost use Rattle.std.specs.Prelude.{◌≡◌, ℕ, ◌+◌, ◌*◌, ◌%◌, ◌<◌, ◌≤◌, [], ◌++◌, List, length, true, IfOk};
 ghost use Rattle.arrayvec.specs.ArrayVec.{array_vec_len};
 ghost use Rattle.rsim_base.specs.Bytes.{count_of};
-ghost use Rattle.memory_contracts.specs.Carrier.{CarrierTicks};
+ghost use Rattle.machine_config.specs.Allowed.{IsAllowed};
+ghost use Rattle.memory_contracts.specs.Bags.{no_flights};
 ghost use Rattle.memory_contracts.specs.Protocol.Events.{is_to_home};
 ghost use Rattle.memory_contracts.specs.Said.{said};
 ghost use Rattle.directory.specs.Homes.{HomeView, Serves};
@@ -18,11 +19,15 @@ ghost use Rattle.coherent_memory.specs.Systems.{is_kept};
 use crate::homes::Homes;
 use crate::laws::{nodes_keep_lines, rooms_suffice, steps_keep_lines, turns_tell};
 use crate::nodes::Nodes;
-use memory_contracts::{Carrier, Class, LostList, Message};
+use elf64_load::Image;
+use machine_config::Config;
+use memory_contracts::{Carrier, Class, LostList, Message, lines_stay_coherent};
 use node_memory::tables_follow;
-use rsim_base::{Addr, Line, Node, Size};
+use rsim_base::{Addr, Line, NoMemory, Node, Size};
+use std::alloc::Global;
 
 /// The homes, the nodes, and what carries messages between them.
+#[derive(Drop)]
 pub struct Fabric<C: Carrier> {
     pub count: u32,
     pub homes: Homes,
@@ -33,6 +38,36 @@ pub struct Fabric<C: Carrier> {
     ghost carried: { (C.meaning carrier).nodes ≡ count },
     ghost few: { count ≤ 16 },
     ghost fine: { ∥ IsFine count (system_with homes nodes (C.meaning carrier)) ∥₁ },
+}
+
+impl<C: Carrier + Drop> Fabric<C> {
+    ghost use Rattle.coherent_memory.specs.FabricViews.{system_of};
+    ghost use Rattle.coherent_memory.specs.First.{IsFirst};
+
+    /// The homes and the nodes that an image and a configuration give, over a carrier that is empty.
+    ///
+    /// # Errors
+    /// Where memory is short.
+    pub fn make(
+        alloc: Global,
+        image: &Image,
+        config: &Config,
+        carrier: C,
+    ) -> Result<Fabric<C>, NoMemory>
+        requires allowed { IsAllowed config.now }
+        requires carrier { C.meaning carrier ≡ no_flights config.now }
+        ensures first { IfOk result (λ made. IsFirst image.now config.now (system_of C.meaning made)) }
+        ensures count { IfOk result (λ made. made.count ≡ config.now.processors) }
+        ensures ticks { IfOk result (λ made. (system_of C.meaning made).carrier.ticks ≡ 0) }
+    {
+        lines_stay_coherent();
+        Ok(Fabric {
+            count: config.processors,
+            homes: Homes::make(alloc, image, config)?,
+            nodes: Nodes::make(alloc, config)?,
+            carrier,
+        })
+    }
 }
 
 impl<C: Carrier> Fabric<C> {
@@ -169,6 +204,7 @@ impl<C: Carrier> Fabric<C> {
         requires place { array_vec_len lost.old + 2 ≤ 128 }
         requires later { AreBefore now ((system_of C.meaning self.old).nodes p.0).coming }
         ensures turn { (gone : List _) × Turn p.0 now (system_of C.meaning self.old) (system_of C.meaning self.new) gone × ∥ AreGoneFrom p.0 (system_of C.meaning self.old) (system_of C.meaning self.new) gone ∥₁ × (lost.new.items ≡ lost.old.items ++ gone) }
+        ensures kept { ∥ HasKept self.old.count (system_of C.meaning self.old) (system_of C.meaning self.new) ∥₁ }
         ensures count { self.new.count ≡ self.old.count }
     {
         turns_tell();
@@ -184,6 +220,7 @@ impl<C: Carrier> Fabric<C> {
         requires later { (q : ℕ) → q < self.old.count → AreBefore now ((system_of C.meaning self.old).nodes q).coming }
         ensures turns { Turns now (system_of C.meaning self.old) self.old.count (system_of C.meaning self.new) lost.new.items }
         ensures gone { ∥ AreGoneBelow self.old.count (system_of C.meaning self.old) (system_of C.meaning self.new) lost.new.items ∥₁ }
+        ensures kept { ∥ HasKept self.old.count (system_of C.meaning self.old) (system_of C.meaning self.new) ∥₁ }
         ensures count { self.new.count ≡ self.old.count }
     {
         turns_tell();

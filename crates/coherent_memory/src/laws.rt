@@ -2,7 +2,7 @@
 
 ghost use Rattle.coherent_memory.specs.Lost.{TurnTells, TurnsTell};
 ghost use Rattle.coherent_memory.specs.Rooms.{RoomStays, ServingGrows, ServingShortens, StartGrows, TakingGrows};
-ghost use Rattle.coherent_memory.specs.Laws.{BeginKeeps, CarryingKeeps, GrantsAwaited, HomeTakesKeeps, MailKeeps, NearAfterRead, NearAfterWrite, NodeTakesKeeps, NothingKeeps, PostKeeps, ServingKeeps, WritingKeeps};
+ghost use Rattle.coherent_memory.specs.Laws.{BeginKeeps, CarryingKeeps, GrantsAwaited, HomeTakesKeeps, MailKeeps, NearAfterRead, NearAfterWrite, NodeTakesKeeps, NothingKeeps, PostKeeps, ServingKeeps, TurnKeeps, WritingKeeps};
 
 use cache_sets::{lines_are_apart, look_ups_follow};
 use memory_contracts::lines_stay_coherent;
@@ -42,8 +42,9 @@ pub fn rooms_suffice()
     lines_stay_coherent();
 }
 
-/// A turn tells the lines that leave its node, each once.
+/// A turn keeps every line coherent, and tells the lines that leave its node, each once.
 pub fn turns_tell()
+    ensures keeps { TurnKeeps }
     ensures turn { TurnTells }
     ensures turns { TurnsTell }
 {

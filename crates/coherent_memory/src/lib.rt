@@ -1,7 +1,11 @@
-//! A memory of caches and a directory that nodes share, over any carrier of messages.
+//! The homes of lines and the nodes that have copies of them, joined by any carrier of messages: every line stays coherent.
 #![tactic(auto)]
 
 mod fabric;
 mod homes;
 mod laws;
 mod nodes;
+
+pub use fabric::Fabric;
+pub use homes::Homes;
+pub use nodes::Nodes;

@@ -2,6 +2,7 @@
 use Rattle.coherent_memory.proofs.Lost.{turns-tell}
 use Rattle.coherent_memory.proofs.NodeLaws.{NodeLaws}
 use Rattle.coherent_memory.proofs.Turning.{turn-tells}
+use Rattle.coherent_memory.proofs.Kept.{turn-keeps}
 use Rattle.coherent_memory.proofs.laws.turns_tell.Goals as goal
 use Rattle.coherent_memory.proofs.laws.turns_tell.Goals.{After-tables_follow}
 
@@ -18,3 +19,13 @@ returns-clause-turn c = turn-tells (node_laws_of c) c.nodes_keep_lines.ensures.b
 
 pub returns-clause-turns : goal.returns-clause-turns
 returns-clause-turns c = turns-tell
+
+pub returns-clause-keeps : goal.returns-clause-keeps
+returns-clause-keeps c = turn-keeps (record {
+  home = c.steps_keep_lines.ensures.home;
+  serving = c.steps_keep_lines.ensures.serving;
+  post = c.steps_keep_lines.ensures.post;
+  mail = c.steps_keep_lines.ensures.mail;
+  node = c.nodes_keep_lines.ensures.node;
+  begin = c.nodes_keep_lines.ensures.begin;
+})

@@ -29,10 +29,11 @@ returns-then-not-has_room-clause-received g c = ([], full (sym c.has_room.ensure
 pub returns-in_default-clause-received : goal.returns-in_default-clause-received
 returns-in_default-clause-received g c =
     let s = c.args.self.now in
-    let taken = c.in_default.ensures.taken in
-    ([],
-    nothing (sym c.has_room.ensures ∙ c.if-not-has_room.false) taken.0 (with-carried s.homes s.nodes (g.C.Carrier.meaning s.carrier) (g.C.Carrier.meaning c.take.new.self) taken.1),
-    sym (append-nil c.args.lost.now.items))
+    let taken = c.in_default.ensures.taken in (
+      [],
+      nothing (sym c.has_room.ensures ∙ c.if-not-has_room.false) taken.0 (with-carried s.homes s.nodes (g.C.Carrier.meaning s.carrier) (g.C.Carrier.meaning c.take.new.self) taken.1),
+      sym (append-nil c.args.lost.now.items),
+    )
 
 pub take-requires-then-goes_to_home-clause-line : goal.take-requires-then-goes_to_home-clause-line
 take-requires-then-goes_to_home-clause-line g c =
@@ -143,13 +144,15 @@ returns-then-goes_to_home-clause-received g c =
       carrier = taken.rest i;
     } in
     let (home, serves, is) = c.serve_waiting.ensures.served in
-    let start = ap (λ (u : System). u.homes p) same ∙ home_at-same p after rest in
-    ([],
-    by_home taken.place f (sym c.has_room.ensures ∙ c.if-not-has_room.false) taken.next taken.stands taken.to kind
-    (home,
-    subst (λ (m : Message). ServesAll m.line.0 c.args.now after home) (sym taken.message) (subst (λ (h : HomeView). ServesAll c.in-Some.m.line.0 c.args.now h home) start serves),
-    is ∙ (ap (λ (u : System). with_home p home u) same ∙ twice-home p home after rest)),
-    sym (append-nil c.args.lost.now.items))
+    let start = ap (λ (u : System). u.homes p) same ∙ home_at-same p after rest in (
+      [],
+      by_home taken.place f (sym c.has_room.ensures ∙ c.if-not-has_room.false) taken.next taken.stands taken.to kind (
+        home,
+        subst (λ (m : Message). ServesAll m.line.0 c.args.now after home) (sym taken.message) (subst (λ (h : HomeView). ServesAll c.in-Some.m.line.0 c.args.now h home) start serves),
+        is ∙ (ap (λ (u : System). with_home p home u) same ∙ twice-home p home after rest),
+      ),
+      sym (append-nil c.args.lost.now.items),
+    )
 
 pub returns-else-goes_to_home-clause-received : goal.returns-else-goes_to_home-clause-received
 returns-else-goes_to_home-clause-received g c =
@@ -158,12 +161,13 @@ returns-else-goes_to_home-clause-received g c =
     let system : System = system_of g.C.Carrier.meaning s in
     let taken = c.in-Some.ensures.taken in
     let f = taken.flight in
-    let kind : is_to_home (said f.message) ≡ false = ap (λ (m : Message). is_to_home (said m)) taken.message ∙ (sym c.goes_to_home.ensures ∙ c.if-goes_to_home.false) in
-    (left_from (system.nodes p).at (lost_at (letter_of f.message) (system.nodes p)),
-    by_node taken.place f (sym c.has_room.ensures ∙ c.if-not-has_room.false) taken.next taken.stands taken.to kind
-    (λ i. record {
-      homes = homes_in s.homes;
-      nodes = (c.take-else-goes_to_home.ensures.after ∙ ap (λ (m : Message). with_at (nodes_in s.nodes) p (after_message (letter_of m) (nodes_in s.nodes p))) (sym taken.message)) i;
-      carrier = taken.rest i;
-    }),
-    c.take-else-goes_to_home.ensures.lost ∙ ap (λ (m : Message). c.args.lost.now.items ++ left_from (system.nodes p).at (lost_at (letter_of m) (system.nodes p))) (sym taken.message))
+    let kind : is_to_home (said f.message) ≡ false = ap (λ (m : Message). is_to_home (said m)) taken.message ∙ (sym c.goes_to_home.ensures ∙ c.if-goes_to_home.false) in (
+      left_from (system.nodes p).at (lost_at (letter_of f.message) (system.nodes p)),
+      by_node taken.place f (sym c.has_room.ensures ∙ c.if-not-has_room.false) taken.next taken.stands taken.to kind
+          (λ i. record {
+            homes = homes_in s.homes;
+            nodes = (c.take-else-goes_to_home.ensures.after ∙ ap (λ (m : Message). with_at (nodes_in s.nodes) p (after_message (letter_of m) (nodes_in s.nodes p))) (sym taken.message)) i;
+            carrier = taken.rest i;
+          }),
+      c.take-else-goes_to_home.ensures.lost ∙ ap (λ (m : Message). c.args.lost.now.items ++ left_from (system.nodes p).at (lost_at (letter_of m) (system.nodes p))) (sym taken.message),
+    )

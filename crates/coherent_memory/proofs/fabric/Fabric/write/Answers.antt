@@ -1,0 +1,26 @@
+use Rattle.std.proofs.Common.{◌≡◌, ◌<◌, sym, subst, ◌∙◌}
+use Rattle.std.proofs.Math.Logic.{∥∥₁_map}
+use Rattle.node_memory.specs.Nodes.{after_write}
+use Rattle.coherent_memory.specs.Fabrics.{system_with}
+use Rattle.coherent_memory.specs.Fine.{IsFine}
+use Rattle.coherent_memory.specs.NodeRows.{nodes_in}
+use Rattle.coherent_memory.specs.Systems.{System}
+use Rattle.coherent_memory.proofs.Accessing.{write-fine}
+use Rattle.coherent_memory.proofs.Fabrics.{nodes-sound, with-nodes}
+use Rattle.coherent_memory.proofs.fabric.Fabric.write.Goals as goal
+
+pub invariant_of-self : goal.invariant_of-self
+invariant_of-self g c =
+    let s = c.args.self.now in
+    let p = c.args.p.0 in
+    let carrier = g.C.Carrier.meaning s.carrier in
+    let system : System = system_with s.homes s.nodes carrier in
+    let sound = nodes-sound s.nodes p (subst (λ n. p < n) (sym s.node_count) c.requires.node) in
+    let same = with-nodes s.homes s.nodes c.write.new.self carrier p (after_write c.args.a.0 c.args.n c.args.v (nodes_in s.nodes p)) c.write.ensures.after in
+    record {
+      home_count = s.home_count;
+      node_count = c.write.ensures.count ∙ s.node_count;
+      carried = s.carried;
+      few = s.few;
+      fine = ∥∥₁_map s.fine (λ (fine : IsFine s.count system). subst (IsFine s.count) (sym same) (write-fine c.nodes_keep_lines.ensures.write s.count p c.args.a.0 c.args.n c.args.v system fine c.requires.node sound));
+    }
