@@ -29,10 +29,10 @@ use std::alloc::Global;
 /// The homes, the nodes, and what carries messages between them.
 #[derive(Drop)]
 pub struct Fabric<C: Carrier> {
-    pub count: u32,
-    pub homes: Homes,
-    pub nodes: Nodes,
-    pub carrier: C,
+    pub(crate) count: u32,
+    pub(crate) homes: Homes,
+    pub(crate) nodes: Nodes,
+    pub(crate) carrier: C,
     ghost home_count: { home_count homes ≡ count },
     ghost node_count: { node_count nodes ≡ count },
     ghost carried: { (C.meaning carrier).nodes ≡ count },

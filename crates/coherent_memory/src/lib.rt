@@ -7,5 +7,3 @@ mod laws;
 mod nodes;
 
 pub use fabric::Fabric;
-pub use homes::Homes;
-pub use nodes::Nodes;
