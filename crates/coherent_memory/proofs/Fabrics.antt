@@ -1,5 +1,5 @@
 -- The whole memory where its homes, its nodes or its carrier have changed.
-use Rattle.std.proofs.Common.{◌≡◌, ℕ, ◌<◌, length}
+use Rattle.std.proofs.Common.{◌≡◌, ℕ, ◌<◌}
 use Rattle.memory_contracts.specs.Carrier.{CarrierView}
 use Rattle.memory_contracts.specs.Updates.{with_at}
 use Rattle.directory.specs.Homes.{HomeView}
@@ -9,7 +9,7 @@ use Rattle.node_memory.specs.Sound.{IsSound}
 use Rattle.coherent_memory.specs.Fabrics.{system_with}
 use Rattle.coherent_memory.specs.HomeRows.{homes_in}
 use Rattle.coherent_memory.specs.NodeRows.{no_node, node_count, nodes_in}
-use Rattle.coherent_memory.specs.Turns.{with_carrier, with_home, with_node}
+use Rattle.coherent_memory.specs.Turns.{with_home, with_node}
 use Rattle.coherent_memory.specs.declared.homes.Homes.{Homes}
 use Rattle.coherent_memory.specs.declared.nodes.Nodes.{Nodes}
 use Rattle.coherent_memory.proofs.PartRows.{rows_of-each}

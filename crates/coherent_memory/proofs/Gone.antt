@@ -1,5 +1,5 @@
 -- Before any turn no line has left.
-use Rattle.std.proofs.Common.{◌≡◌, ℕ, zero, Bool, true, false, ◌&&◌, not, [], refl, arith}
+use Rattle.std.proofs.Common.{◌≡◌, zero, Bool, true, false, ◌&&◌, not, [], refl, arith}
 use Rattle.coherent_memory.specs.Lost.{AreGoneBelow, holds}
 use Rattle.coherent_memory.specs.Systems.{System}
 

@@ -1,5 +1,5 @@
 -- A turn keeps every line coherent, with the content that it had.
-use Rattle.std.proofs.Common.{◌≡◌, ℕ, ◌<◌, Bool, true, false, List, Some, slice_get, refl, sym, ap, subst, ◌∙◌}
+use Rattle.std.proofs.Common.{ℕ, ◌<◌, true, List, refl, sym, subst, ◌∙◌}
 use Rattle.rsim_base.specs.declared.memory.Line.{Line}
 use Rattle.rsim_base.specs.declared.memory.Node.{Node}
 use Rattle.memory_contracts.specs.Said.{letter_of}
@@ -8,7 +8,7 @@ use Rattle.node_memory.specs.Sound.{IsSound}
 use Rattle.coherent_memory.specs.Fine.{HasKept, IsFine}
 use Rattle.coherent_memory.specs.Laws.{BeginKeeps, HomeTakesKeeps, MailKeeps, NodeTakesKeeps, PostKeeps, ServingKeeps, TurnKeeps}
 use Rattle.coherent_memory.specs.Systems.{System}
-use Rattle.coherent_memory.specs.Turns.{HomeSends, NodeSends, Receives, ServesAll, Turn, begun, by_home, by_node, ends, full, more, none, nothing, posted, refused, sends, with_home, without_flight, without_mail, without_post}
+use Rattle.coherent_memory.specs.Turns.{HomeSends, NodeSends, Receives, ServesAll, begun, by_home, by_node, ends, full, more, none, nothing, posted, refused, sends, with_home, without_flight, without_mail, without_post}
 use Rattle.coherent_memory.proofs.Serving.{home_at-same, twice-home}
 
 pub kept-refl : (n : ℕ) (s : System) → IsFine n s → HasKept n s s

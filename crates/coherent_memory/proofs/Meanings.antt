@@ -1,19 +1,14 @@
 -- What the store means after a call on one node.
-use Rattle.std.proofs.Common.{◌≡◌, ℕ, ◌+◌, ◌/◌, ◌%◌, ◌<◌, ◌≤◌, ◌==◌, Bool, true, false, cond, ◌&&◌, not, List, [], ◌∷◌, ◌++◌, length, slice_index, Option, refl, sym, ap, subst, ◌∙◌, arith}
+use Rattle.std.proofs.Common.{◌≡◌, ℕ, ◌/◌, ◌%◌, ◌==◌, Bool, true, false, cond, List, slice_index, refl, sym, ap, ◌∙◌}
 use Rattle.std.proofs.Math.Logic.{∥∥₁_elim}
 use Rattle.std.proofs.Math.Nat.{ℕ_set}
 use Rattle.std.proofs.lemmas.Bool.{eqb-true}
-use Rattle.rsim_base.specs.Bytes.{count_of}
-use Rattle.rsim_base.specs.declared.memory.Size.{Size}
-use Rattle.memory_contracts.specs.Protocol.Content.{bytes_of}
 use Rattle.memory_contracts.specs.Protocol.NodeTable.{is_held}
-use Rattle.memory_contracts.specs.Store.{StoreView, Wish, stored}
+use Rattle.memory_contracts.specs.Store.{Wish}
 use Rattle.memory_contracts.specs.Updates.{with_at}
-use Rattle.cache_levels.specs.Bytes.{written_at}
 use Rattle.cache_levels.specs.Levels.{near, owned}
 use Rattle.node_memory.specs.Nodes.{NodeView, copy_of}
-use Rattle.coherent_memory.specs.Fine.{HasKept, IsFine}
-use Rattle.coherent_memory.specs.Lost.{holds}
+use Rattle.coherent_memory.specs.Fine.{HasKept}
 use Rattle.coherent_memory.specs.Stores.{Shape, byte_at, store_of}
 use Rattle.coherent_memory.specs.Systems.{System, content, is_kept}
 use Rattle.coherent_memory.specs.Turns.{with_node}

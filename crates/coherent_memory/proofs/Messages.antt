@@ -1,22 +1,20 @@
 -- A message that has come: where it stood, and what may be relied on.
-use Rattle.std.proofs.Common.{◌≡◌, ℕ, ◌+◌, ◌*◌, ◌<◌, ◌≤◌, All, Bool, true, false, ◌&&◌, if◌then◌else◌, List, length, slice_get, get_or, Some, refl, sym, ap, subst, ◌∙◌, arith}
+use Rattle.std.proofs.Common.{◌≡◌, ℕ, ◌+◌, ◌*◌, ◌<◌, ◌≤◌, Bool, true, if◌then◌else◌, length, slice_get, Some, sym, subst, ◌∙◌}
 use Rattle.std.proofs.Math.Bool.{Bool-set}
 use Rattle.std.proofs.Math.Bridge.{le_prop}
 use Rattle.std.proofs.Math.Logic.{∥∥₁_elim}
-use Rattle.std.proofs.Math.Nat.{ℕ_set}
 use Rattle.std.proofs.lemmas.Bool.{and_parts, leb-true}
 use Rattle.std.proofs.lemmas.Option.{get_or_from_slice_get, slice_get_within}
-use Rattle.memory_contracts.specs.Carrier.{CarrierView, Flight, TakesOne}
+use Rattle.memory_contracts.specs.Carrier.{Flight}
 use Rattle.memory_contracts.specs.Protocol.Events.{is_to_home}
 use Rattle.memory_contracts.specs.Said.{said}
-use Rattle.memory_contracts.specs.declared.message.Message.{Message}
 use Rattle.directory.specs.Homes as Homes
 use Rattle.node_memory.specs.Nodes as Nodes
 use Rattle.node_memory.specs.Nodes.{awaits}
 use Rattle.node_memory.specs.Rows.{is_grant}
 use Rattle.coherent_memory.specs.Fine.{GoesRight, IsFine, IsRightFlight}
 use Rattle.coherent_memory.specs.Laws.{GrantsAwaited}
-use Rattle.coherent_memory.specs.Systems.{System, home_number, is_kept, party}
+use Rattle.coherent_memory.specs.Systems.{System, home_number, is_kept}
 use Rattle.coherent_memory.specs.Turns.{rooms}
 
 right-flight : (n i : ℕ) (f : Flight) (s : System) → IsFine n s → slice_get s.carrier.flights i ≡ Some f → IsRightFlight n (is_kept n s) f

@@ -1,14 +1,13 @@
 -- A line that becomes the most recent leaves what is near.
-use Rattle.std.proofs.Common.{◌≡◌, ℕ, Bool, Option, None, Some, is_some, refl, ap, ◌∙◌}
+use Rattle.std.proofs.Common.{◌≡◌, ℕ, Option, None, Some, is_some, refl, ap}
 use Rattle.std.specs.Option.{option_map_or}
 use Rattle.std.proofs.lemmas.Bool.{cond_both}
-use Rattle.rsim_base.specs.declared.memory.Size.{Size}
 use Rattle.cache_sets.specs.Apart.{SoundIsApart}
 use Rattle.cache_sets.specs.Caches.{CacheView, slot_of, touched}
 use Rattle.cache_sets.specs.Lookups.{TouchLooksUp}
 use Rattle.cache_sets.specs.Sound as cache
-use Rattle.cache_levels.specs.Levels.{LevelsView, near, owned, touched_levels, touched_line, written}
-use Rattle.node_memory.specs.Nodes.{NodeView, after_read, after_write, line_at}
+use Rattle.cache_levels.specs.Levels.{LevelsView, near, owned, touched_levels, written}
+use Rattle.node_memory.specs.Nodes.{NodeView, line_at}
 use Rattle.coherent_memory.specs.Laws.{NearAfterRead, NearAfterWrite}
 
 module _ (touch : TouchLooksUp) (apart : SoundIsApart) where

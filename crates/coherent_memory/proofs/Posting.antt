@@ -1,5 +1,5 @@
 -- A message that goes on its way: who says it, where it goes, and what the carrier answers.
-use Rattle.std.proofs.Common.{◌≡◌, ℕ, zero, suc, ◌%◌, ◌<◌, ◌≤◌, All, Bool, true, false, cond, not, List, [], ◌∷◌, ◌++◌, length, Option, None, Some, option_map, slice_get, drop, refl, sym, ap, subst, ◌∙◌, arith}
+use Rattle.std.proofs.Common.{◌≡◌, ℕ, zero, ◌<◌, All, Bool, true, false, cond, not, List, [], ◌∷◌, ◌++◌, length, None, Some, option_map, slice_get, drop, refl, sym, ap, subst, ◌∙◌, arith}
 use Rattle.std.proofs.Math.Bridge.{le_prop}
 use Rattle.std.proofs.Math.Logic.{∥∥₁_elim}
 use Rattle.std.proofs.Math.Nat.{mod-lt, ℕ_set}
@@ -10,7 +10,7 @@ use Rattle.memory_contracts.specs.declared.message.Message.{Message}
 use Rattle.directory.specs.Homes.{HomeView, Post, first_outgoing, mail_of, may_go}
 use Rattle.node_memory.specs.Nodes.{NodeView, without_first_mail}
 use Rattle.coherent_memory.specs.Fine.{IsFine, IsRightMail, IsRightPost}
-use Rattle.coherent_memory.specs.Systems.{System, home_number}
+use Rattle.coherent_memory.specs.Systems.{System}
 use Rattle.coherent_memory.specs.Sending.{MailsOne, PostsOne, none, refused, sent}
 use Rattle.coherent_memory.specs.Turns as Turns
 use Rattle.coherent_memory.specs.Turns.{HomeSends, NodeSends, next_mail, next_post}

@@ -1,5 +1,5 @@
 -- What a turn leaves as it is: other nodes, the carrier's time, how many bytes a line has; and what it fetches it fetches now.
-use Rattle.std.proofs.Common.{◌≡◌, ◌≢◌, ℕ, zero, suc, ◌+◌, ◌<◌, ◌≤◌, ◌==◌, All, Bool, true, false, cond, List, [], ◌∷◌, ◌++◌, Option, None, Some, slice_get, refl, sym, ap, subst, ◌∙◌, append-nil, arith}
+use Rattle.std.proofs.Common.{◌≡◌, ◌≢◌, ℕ, zero, suc, ◌<◌, All, Bool, true, false, cond, List, [], ◌∷◌, ◌++◌, Option, None, Some, refl, sym, ap, subst, ◌∙◌, append-nil, arith}
 use Rattle.std.specs.Option.{option_map_or}
 use Rattle.std.proofs.lemmas.Bool.{cond_both, ne_eqb}
 use Rattle.std.proofs.lemmas.List.Elements.{All-append}
@@ -19,7 +19,7 @@ use Rattle.node_memory.specs.Starting.{Arrival, Begun, arrive, arrived, begins, 
 use Rattle.node_memory.specs.declared.table.Change.{Change}
 use Rattle.node_memory.specs.declared.table.Change.TheVariants.{Nothing, Lose, Share, Fill, EmptySlot, FreeSlot}
 use Rattle.coherent_memory.specs.Systems.{System}
-use Rattle.coherent_memory.specs.Turns.{HomeSends, NodeSends, Receives, Turn, begun, by_home, by_node, ends, full, node_takes, nothing, posted, refused, sends, without_flight, without_mail, without_post}
+use Rattle.coherent_memory.specs.Turns.{HomeSends, NodeSends, Receives, Turn, begun, by_home, by_node, ends, full, nothing, posted, refused, sends, without_mail, without_post}
 use Rattle.coherent_memory.proofs.Places.{with_at-other, with_at-same}
 
 -- ---- the node whose turn it is

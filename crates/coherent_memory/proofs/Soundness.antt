@@ -1,11 +1,11 @@
 -- The whole memory is a sound store: what is near or owned is held, and what a node owns no other holds.
-use Rattle.std.proofs.Common.{◌≡◌, ℕ, ◌<◌, ◌≤◌, Bool, true, false, List, [], IsTrue, length, slice_get, Option, None, Some, is_some, refl, sym, ap, subst, ◌∙◌, ⊎_elim, arith}
+use Rattle.std.proofs.Common.{◌≡◌, ℕ, ◌<◌, ◌≤◌, Bool, true, false, List, [], length, Option, None, Some, sym, ap, subst, ◌∙◌, ⊎_elim, arith}
 use Rattle.std.specs.Option.{option_map_or}
 use Rattle.std.proofs.Math.Logic.{∥∥₁_elim}
 use Rattle.std.proofs.Math.Nat.{ℕ_set}
 use Rattle.std.proofs.lemmas.Bool.{cases_lt}
 use Rattle.memory_contracts.specs.Protocol.Laws.{OwnedIsAlone}
-use Rattle.memory_contracts.specs.Protocol.Lines.{Copy, Absent, Shared, Owned, Evicting, Emptied}
+use Rattle.memory_contracts.specs.Protocol.Lines.{Owned}
 use Rattle.memory_contracts.specs.Protocol.NodeTable.{granted, is_held}
 use Rattle.memory_contracts.specs.Store.{IsSound, most_wishes}
 use Rattle.cache_levels.specs.Levels as level

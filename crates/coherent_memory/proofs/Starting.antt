@@ -1,5 +1,5 @@
 -- Memory at first: nobody has a line, and the bytes are the image's.
-use Rattle.std.proofs.Common.{◌≡◌, ℕ, zero, suc, ◌+◌, ◌*◌, ◌/◌, ◌%◌, ◌^◌, ◌<◌, ◌≤◌, Bool, true, false, cond, List, [], ◌∷◌, ◌++◌, find, map, get_or, slice_get, slice_index, Option, None, option_map, option_and_then, unwrap_or, is_some, mul_comm, refl, sym, ap, subst, ◌∙◌, arith}
+use Rattle.std.proofs.Common.{◌≡◌, ℕ, zero, suc, ◌+◌, ◌*◌, ◌/◌, ◌%◌, ◌^◌, ◌<◌, Bool, true, false, cond, List, [], ◌∷◌, ◌++◌, find, map, get_or, slice_get, slice_index, Option, None, option_map, option_and_then, unwrap_or, is_some, mul_comm, refl, sym, ap, subst, ◌∙◌, arith}
 use Rattle.std.specs.FinMap.{get-empty}
 use Rattle.std.specs.Option.{option_map_or}
 use Rattle.std.specs.Ordering.{nat_cmp}
@@ -18,11 +18,9 @@ use Rattle.memory_contracts.specs.Protocol.Alike.{AreAlike, IsAlike}
 use Rattle.memory_contracts.specs.Protocol.Coherent.{Coherent}
 use Rattle.memory_contracts.specs.Protocol.Events.{start}
 use Rattle.memory_contracts.specs.Protocol.Laws.{CurrentIsContent, LinesStayCoherent, OrderIsFree}
-use Rattle.memory_contracts.specs.Protocol.Lines.{Cell, Idle, Absent, HomeRecord, all_mailed, cell, nobody, stance}
+use Rattle.memory_contracts.specs.Protocol.Lines.{Cell, Idle, Absent, all_mailed, cell, nobody, stance}
 use Rattle.memory_contracts.specs.Protocol.Messages.{Message}
 use Rattle.memory_contracts.specs.Protocol.NodeTable.{is_held}
-use Rattle.memory_contracts.specs.Start.{IsStart}
-use Rattle.directory.specs.Start as home
 use Rattle.miss_registers.specs.Misses.{victim_of}
 use Rattle.node_memory.specs.Nodes.{NodeView, awaits, copy_of, empty_node, kept_as, no_misses}
 use Rattle.coherent_memory.specs.Fine.{IsFine, IsRightFlight, IsRightLetter, IsRightMail, IsRightNode, IsRightPost}

@@ -1,21 +1,21 @@
 -- What a node reads is the content of memory.
-use Rattle.std.proofs.Common.{◌≡◌, ℕ, zero, suc, ◌+◌, ◌*◌, ◌/◌, ◌%◌, ◌<◌, ◌≤◌, Bool, true, false, List, [], ◌∷◌, cond, slice_index, refl, sym, ap, subst, ◌∙◌, arith}
+use Rattle.std.proofs.Common.{◌≡◌, ℕ, zero, suc, ◌+◌, ◌*◌, ◌/◌, ◌%◌, ◌<◌, Bool, true, List, [], ◌∷◌, cond, slice_index, refl, sym, ap, ◌∙◌, arith}
 use Rattle.rsim_base.specs.Bytes.{count_of}
 use Rattle.rsim_base.specs.declared.memory.Size.{Size}
 use Rattle.memory_contracts.specs.Protocol.Coherent.{Coherent}
-use Rattle.memory_contracts.specs.Protocol.Content.{bytes_of, current}
+use Rattle.memory_contracts.specs.Protocol.Content.{bytes_of}
 use Rattle.memory_contracts.specs.Protocol.Laws.{OwnedHasContent, SharedHasContent}
 use Rattle.memory_contracts.specs.Protocol.Lines.{Cell, Copy, Absent, Shared, Owned, Evicting, Emptied, LineState, all_mailed, cell, mailed, stance}
 use Rattle.memory_contracts.specs.Protocol.Messages.{Message, GetS, GetM, Put, Inv, Recall, Grant, PutAck, InvAck, RecallAck, Done}
 use Rattle.memory_contracts.specs.Protocol.NodeTable.{is_held}
 use Rattle.memory_contracts.specs.Store.{value_at}
 use Rattle.cache_levels.specs.Sizes.{IsLineSize}
-use Rattle.node_memory.specs.Nodes.{NodeView, byte_in, copy_of, line_at}
+use Rattle.node_memory.specs.Nodes.{byte_in, copy_of}
 use Rattle.coherent_memory.specs.Fine.{IsFine}
 use Rattle.coherent_memory.specs.Lost.{holds}
 use Rattle.coherent_memory.specs.Stores.{Shape, byte_at}
 use Rattle.coherent_memory.specs.Systems.{System, between, content, is_kept, line_of}
-use Rattle.coherent_memory.proofs.Addresses.{next_place, same_line}
+use Rattle.coherent_memory.proofs.Addresses.{same_line}
 
 -- messages leave the copy of a cell
 mailed-copy : (m : Message) (c : Cell) → (mailed m c).stance.copy ≡ c.stance.copy

@@ -1,5 +1,4 @@
 -- A fabric as the whole memory that it is.
-use Rattle.std.specs.Prelude.{ℕ}
 use Rattle.memory_contracts.specs.Carrier.{CarrierView}
 use Rattle.coherent_memory.specs.Fabrics.{system_with}
 use Rattle.coherent_memory.specs.Systems.{System}

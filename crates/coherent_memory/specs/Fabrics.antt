@@ -1,5 +1,4 @@
 -- The homes, the nodes and the carrier as the whole memory.
-use Rattle.std.specs.Prelude.{ℕ}
 use Rattle.memory_contracts.specs.Carrier.{CarrierView}
 use Rattle.coherent_memory.specs.HomeRows.{homes_in}
 use Rattle.coherent_memory.specs.NodeRows.{nodes_in}

@@ -1,5 +1,5 @@
 -- What the whole memory keeps: each message is where it belongs, and each line is coherent.
-use Rattle.std.specs.Prelude.{◌≡◌, ℕ, ◌%◌, ◌<◌, Bool, true, false, List, All, if◌then◌else◌}
+use Rattle.std.specs.Prelude.{◌≡◌, ℕ, ◌<◌, Bool, true, false, All}
 use Rattle.memory_contracts.specs.Carrier.{Flight}
 use Rattle.memory_contracts.specs.Protocol.Coherent.{Coherent}
 use Rattle.memory_contracts.specs.Protocol.Events.{is_to_home, is_to_node}

@@ -1,5 +1,5 @@
 -- What each step of a tick does to the lines of memory: all stay coherent, and have the content that they had.
-use Rattle.std.specs.Prelude.{◌≡◌, ℕ, ◌%◌, ◌==◌, ◌<◌, ◌≤◌, Bool, true, false, All, List, length, if◌then◌else◌, slice_get, Option, None, Some}
+use Rattle.std.specs.Prelude.{◌≡◌, ℕ, ◌%◌, ◌==◌, ◌<◌, true, false, All, List, if◌then◌else◌, slice_get, Some}
 use Rattle.rsim_base.specs.declared.memory.Line.{Line}
 use Rattle.rsim_base.specs.declared.memory.Node.{Node}
 use Rattle.rsim_base.specs.declared.memory.Size.{Size}

@@ -1,5 +1,5 @@
 -- One message on its way, or none.
-use Rattle.std.specs.Prelude.{◌≡◌, ◌⊎◌, ℕ, Bool, true, false, None, Some}
+use Rattle.std.specs.Prelude.{◌≡◌, ℕ, Bool, true, false, None, Some}
 use Rattle.memory_contracts.specs.Said.{Mail}
 use Rattle.memory_contracts.specs.declared.message.Message.{Message}
 use Rattle.coherent_memory.specs.Systems.{System}

@@ -1,5 +1,5 @@
 -- The whole memory as the store that it is.
-use Rattle.std.specs.Prelude.{◌≡◌, ℕ, ◌<◌, ◌/◌, ◌%◌, Bool, if◌then◌else◌, slice_index}
+use Rattle.std.specs.Prelude.{ℕ, ◌/◌, ◌%◌, Bool, if◌then◌else◌, slice_index}
 use Rattle.memory_contracts.specs.Store.{StoreView}
 use Rattle.cache_levels.specs.Levels.{near, owned}
 use Rattle.coherent_memory.specs.Lost.{holds}

@@ -1,5 +1,5 @@
 -- The whole memory: a home and a node for each number, and the messages that are under way between them.
-use Rattle.std.specs.Prelude.{ℕ, ◌%◌, ◌==◌, ◌&&◌, Bool, false, List, [], ◌∷◌, ◌++◌, if◌then◌else◌}
+use Rattle.std.specs.Prelude.{ℕ, ◌%◌, ◌==◌, ◌&&◌, Bool, List, [], ◌∷◌, ◌++◌, if◌then◌else◌}
 use Rattle.std.specs.List.{flat_map}
 use Rattle.memory_contracts.specs.Carrier.{CarrierView, Flight}
 use Rattle.memory_contracts.specs.Protocol.Content.{current}

@@ -1,9 +1,9 @@
 -- A tick: each node has its turn, one after the other, and then the carrier ticks.
-use Rattle.std.specs.Prelude.{◌≡◌, ℕ, zero, suc, ◌+◌, Bool, true, false, ◌&&◌, List, [], ◌++◌, drop, slice_get, option_map, Option, None, Some}
+use Rattle.std.specs.Prelude.{◌≡◌, ℕ, zero, suc, Bool, true, false, ◌&&◌, List, [], ◌++◌, drop, slice_get, option_map, Option, None, Some}
 use Rattle.std.specs.List.{remove}
 use Rattle.rsim_base.specs.declared.memory.Line.{Line}
 use Rattle.rsim_base.specs.declared.memory.Node.{Node}
-use Rattle.memory_contracts.specs.Carrier.{CarrierTicks, CarrierView, Flight, Takes, after_send, class_of, is_full, next_for}
+use Rattle.memory_contracts.specs.Carrier.{CarrierTicks, CarrierView, Flight, after_send, class_of, is_full, next_for}
 use Rattle.memory_contracts.specs.Protocol.Events.{is_to_home}
 use Rattle.memory_contracts.specs.Said.{Mail, letter_of, said, told}
 use Rattle.memory_contracts.specs.Updates.{with_at}

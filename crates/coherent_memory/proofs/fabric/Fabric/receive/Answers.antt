@@ -1,7 +1,6 @@
-use Rattle.std.proofs.Common.{◌≡◌, ◌+◌, ◌*◌, ◌<◌, ◌≤◌, ℕ, Bool, true, false, List, [], ◌++◌, append-nil, slice_get, Some, refl, sym, ap, subst, ◌∙◌, arith}
-use Rattle.std.specs.List.{remove}
+use Rattle.std.proofs.Common.{◌≡◌, ◌<◌, ℕ, true, false, [], ◌++◌, append-nil, refl, sym, ap, subst, ◌∙◌}
 use Rattle.std.proofs.Math.Logic.{∥∥₁_map}
-use Rattle.memory_contracts.specs.Carrier.{CarrierView, Flight, Takes, TakesOne}
+use Rattle.memory_contracts.specs.Carrier.{CarrierView}
 use Rattle.memory_contracts.specs.Protocol.Events.{is_to_home}
 use Rattle.memory_contracts.specs.Said.{letter_of, said}
 use Rattle.memory_contracts.specs.Updates.{with_at}
@@ -16,9 +15,9 @@ use Rattle.coherent_memory.specs.HomeRows.{homes_in}
 use Rattle.coherent_memory.specs.NodeRows.{nodes_in}
 use Rattle.coherent_memory.specs.Rooms.{Grows}
 use Rattle.coherent_memory.specs.Systems.{System}
-use Rattle.coherent_memory.specs.Turns.{Receives, ServesAll, by_home, by_node, full, node_takes, nothing, rooms, with_home, without_flight}
+use Rattle.coherent_memory.specs.Turns.{ServesAll, by_home, by_node, full, node_takes, nothing, with_home, without_flight}
 use Rattle.coherent_memory.proofs.Fabrics.{nodes-sound, with-carried}
-use Rattle.coherent_memory.proofs.Messages.{from-below, grant-awaited, home-room, line-kept, node-room, room-of}
+use Rattle.coherent_memory.proofs.Messages.{from-below, grant-awaited, line-kept, room-of}
 use Rattle.coherent_memory.proofs.Places.{with_at-same}
 use Rattle.coherent_memory.proofs.Serving.{home_at-same, twice-home}
 use Rattle.coherent_memory.proofs.fabric.Fabric.receive.Goals as goal

@@ -1,13 +1,13 @@
-use Rattle.std.proofs.Common.{◌≡◌, ◌<◌, Bool, None, Some, option_map, refl, rules, sym, ap, subst, ◌∙◌, arith}
+use Rattle.std.proofs.Common.{◌≡◌, refl, sym, ap, subst, ◌∙◌, arith}
 use Rattle.std.proofs.Math.Logic.{∥∥₁_map}
 use Rattle.memory_contracts.specs.Carrier.{CarrierView, class_of, is_full}
 use Rattle.memory_contracts.specs.Said.{Mail, told}
 use Rattle.coherent_memory.specs.Fabrics.{system_with}
 use Rattle.coherent_memory.specs.Fine.{IsFine}
 use Rattle.coherent_memory.specs.NodeRows.{nodes_in}
-use Rattle.coherent_memory.specs.Sending.{PostsOne, none, refused, sent}
+use Rattle.coherent_memory.specs.Sending.{none, refused, sent}
 use Rattle.coherent_memory.specs.Systems.{System}
-use Rattle.coherent_memory.specs.Turns.{IsSaying, next_post, posted, without_post}
+use Rattle.coherent_memory.specs.Turns.{IsSaying, posted, without_post}
 use Rattle.coherent_memory.proofs.Fabrics.{with-carried}
 use Rattle.coherent_memory.proofs.Posting.{free-of, full-of, home-at, post-below, send-nodes, send-refused}
 use Rattle.coherent_memory.proofs.fabric.Fabric.send_post.Goals as goal

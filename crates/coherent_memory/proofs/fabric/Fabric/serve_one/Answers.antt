@@ -1,13 +1,8 @@
-use Rattle.std.proofs.Common.{◌≡◌, ℕ, Bool, true, false, refl, sym, ap, subst, ◌∙◌}
+use Rattle.std.proofs.Common.{sym, subst, ◌∙◌}
 use Rattle.std.proofs.Math.Logic.{∥∥₁_map}
-use Rattle.memory_contracts.specs.Updates.{with_at}
-use Rattle.directory.specs.Homes.{HomeView, Serves}
 use Rattle.coherent_memory.specs.Fabrics.{system_with}
 use Rattle.coherent_memory.specs.Fine.{IsFine}
-use Rattle.coherent_memory.specs.HomeRows.{homes_in}
-use Rattle.coherent_memory.specs.Laws.{ServingKeeps}
 use Rattle.coherent_memory.specs.Systems.{System}
-use Rattle.coherent_memory.specs.Turns.{with_home}
 use Rattle.coherent_memory.proofs.Fabrics.{with-homes}
 use Rattle.coherent_memory.proofs.Serving.{served-fine}
 use Rattle.coherent_memory.proofs.fabric.Fabric.serve_one.Goals as goal

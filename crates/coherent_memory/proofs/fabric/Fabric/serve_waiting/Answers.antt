@@ -1,4 +1,4 @@
-use Rattle.std.proofs.Common.{◌≡◌, ◌+◌, ◌*◌, ◌<◌, ◌≤◌, ℕ, suc, Bool, true, length, refl, sym, ap, subst, ◌∙◌, arith}
+use Rattle.std.proofs.Common.{◌<◌, ℕ, Bool, length, refl, sym, ap, subst, ◌∙◌, arith}
 use Rattle.directory.specs.Homes.{HomeView, Serves}
 use Rattle.coherent_memory.specs.FabricViews.{system_of}
 use Rattle.coherent_memory.specs.Rooms.{Grows}

@@ -1,6 +1,5 @@
-use Rattle.std.proofs.Common.{◌≡◌, ◌++◌, ◌<◌, ℕ, List, append_assoc, refl, sym, ap, subst, ◌∙◌}
+use Rattle.std.proofs.Common.{◌++◌, ◌<◌, append_assoc, refl, sym, ap, subst, ◌∙◌}
 use Rattle.std.proofs.Math.Logic.{∥∥₁_map}
-use Rattle.node_memory.specs.Nodes.{NodeView}
 use Rattle.node_memory.specs.Sound.{IsSound}
 use Rattle.coherent_memory.specs.FabricViews.{system_of}
 use Rattle.coherent_memory.specs.Fine.{IsFine}

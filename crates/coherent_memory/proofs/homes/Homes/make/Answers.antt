@@ -1,4 +1,4 @@
-use Rattle.std.proofs.Common.{◌≡◌, ℕ, ◌+◌, ◌<◌, [], ◌∷◌, ◌++◌, List, length, rules, subst, sym, arith}
+use Rattle.std.proofs.Common.{◌≡◌, ℕ, ◌<◌, [], ◌∷◌, ◌++◌, List, length, rules, subst, sym, arith}
 use Rattle.directory.specs.HomeViews.{home_of}
 use Rattle.directory.specs.Homes.{HomeView}
 use Rattle.directory.specs.Start.{IsStart}

@@ -1,4 +1,4 @@
-use Rattle.std.proofs.Common.{◌≡◌, ℕ, ◌+◌, ◌<◌, [], ◌∷◌, ◌++◌, List, length, rules, subst, sym, arith}
+use Rattle.std.proofs.Common.{◌≡◌, ℕ, ◌<◌, [], ◌∷◌, ◌++◌, List, length, rules, subst, sym, arith}
 use Rattle.node_memory.specs.NodeViews.{node_of}
 use Rattle.node_memory.specs.Nodes.{NodeView, empty_node}
 use Rattle.node_memory.specs.declared.node.NodeMemory.{NodeMemory}
