@@ -17,6 +17,7 @@ mod Meanings
 pub mod Moving
 pub mod NodeLaws
 pub mod NodeRights
+mod Memories
 mod Messages
 mod Nearness
 mod PartRows
@@ -38,3 +39,5 @@ mod Ticking
 pub mod Turning
 mod Values
 pub mod Writing
+mod Wishing
+mod ReadStore

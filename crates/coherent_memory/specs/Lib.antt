@@ -12,3 +12,4 @@ pub mod Sending
 pub mod Stores
 pub mod Systems
 pub mod Turns
+pub mod Wholes
