@@ -41,3 +41,5 @@ mod Values
 pub mod Writing
 mod Wishing
 mod ReadStore
+mod WriteStore
+mod Making

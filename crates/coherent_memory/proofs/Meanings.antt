@@ -15,7 +15,7 @@ use Rattle.coherent_memory.specs.Turns.{with_node}
 
 -- ---- bytes
 
-byte-kept : (b c : Bool) (xs ys : List ℕ) (k : ℕ) → c ≡ b → (b ≡ true → ys ≡ xs) → cond c (slice_index ys k) 0 ≡ cond b (slice_index xs k) 0
+pub byte-kept : (b c : Bool) (xs ys : List ℕ) (k : ℕ) → c ≡ b → (b ≡ true → ys ≡ xs) → cond c (slice_index ys k) 0 ≡ cond b (slice_index xs k) 0
 byte-kept true c xs ys k same content = ap (λ (d : Bool). cond d (slice_index ys k) 0) same ∙ ap (λ (bs : List ℕ). slice_index bs k) (content refl)
 byte-kept false c xs ys k same content = ap (λ (d : Bool). cond d (slice_index ys k) 0) same
 
@@ -66,7 +66,7 @@ with_node-store shape ticks s p v bytes is same = λ i. record {
 }
 
 -- the wishes that a node had
-same-wishes : (f : ℕ → List Wish) (p : ℕ) → with_at f p (f p) ≡ f
+pub same-wishes : (f : ℕ → List Wish) (p : ℕ) → with_at f p (f p) ≡ f
 same-wishes f p = λ i q. by q (q == p) refl i
   where
     by : (q : ℕ) (b : Bool) → (q == p) ≡ b → cond b (f p) (f q) ≡ f q

@@ -1,5 +1,5 @@
 -- What a coherent memory keeps after each call.
-use Rattle.std.proofs.Common.{◌≡◌, ℕ, suc, ◌+◌, ◌/◌, ◌<◌, ◌≤◌, ◌==◌, Bool, true, false, cond, List, [], ◌++◌, length, Option, None, refl, sym, ap, subst, ◌∙◌, arith}
+use Rattle.std.proofs.Common.{◌≡◌, ℕ, suc, ◌+◌, ◌/◌, ◌<◌, ◌≤◌, ◌==◌, Bool, true, false, cond, List, None, refl, sym, ap, subst, ◌∙◌, arith}
 use Rattle.std.specs.FinMap.{get-empty}
 use Rattle.std.specs.Option.{option_map_or}
 use Rattle.std.specs.Ordering.{nat_cmp}
@@ -23,7 +23,7 @@ use Rattle.coherent_memory.specs.FabricViews.{system_of}
 use Rattle.coherent_memory.specs.Fine.{HasKept, IsFine}
 use Rattle.coherent_memory.specs.NodeRows.{no_node, node_count, nodes_in}
 use Rattle.coherent_memory.specs.Stores.{Shape, store_of}
-use Rattle.coherent_memory.specs.Systems.{System, is_kept}
+use Rattle.coherent_memory.specs.Systems.{System}
 use Rattle.coherent_memory.specs.Turns.{HasTicked, Turns, before, next, with_node}
 use Rattle.coherent_memory.specs.Wholes.{IsWhole}
 use Rattle.coherent_memory.specs.declared.fabric.Fabric.{Fabric}
@@ -43,7 +43,7 @@ nothing-there = record {
   wishes = refl;
 }
 
-nothing-past : (nodes : Nodes) (p : ℕ) → node_count nodes ≤ p → IsNothing (nodes_in nodes p)
+pub nothing-past : (nodes : Nodes) (p : ℕ) → node_count nodes ≤ p → IsNothing (nodes_in nodes p)
 nothing-past nodes p beyond = subst IsNothing (sym (ap (λ o. option_map_or node_of o no_node) (slice_get_past nodes.list.items p beyond))) nothing-there
 
 pub fabric-sound : {C : Type 0} {b : _} → HeldFollows → OwnedIsAlone → (meaning : C → CarrierView) (f : Fabric C b) (shape : Shape) (ticks : ℕ) → shape.nodes ≡ f.count → node_count f.nodes ≡ f.count → ∥ IsFine f.count (system_of meaning f) ∥₁ → store.IsSound (store_of shape ticks (system_of meaning f))

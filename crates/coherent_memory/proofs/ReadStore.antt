@@ -17,7 +17,7 @@ use Rattle.cache_levels.specs.Sizes.{IsLineSize}
 use Rattle.cache_levels.specs.declared.levels.LineCopy.{LineCopy}
 use Rattle.node_memory.specs.Laws.{HeldFollows, ReadFollows}
 use Rattle.node_memory.specs.Nodes.{NodeView, after_read, byte_in, copy_of, kept_as, line_at, read_of}
-use Rattle.node_memory.specs.Sides.{Side, side_of}
+use Rattle.node_memory.specs.Sides.{Side}
 use Rattle.node_memory.specs.Sound.{IsSound}
 use Rattle.coherent_memory.specs.Fine.{HasKept, IsFine}
 use Rattle.coherent_memory.specs.Laws.{NearAfterRead}

@@ -1,13 +1,15 @@
 -- Memory at first: nobody has a line, and the bytes are the image's.
-use Rattle.std.proofs.Common.{◌≡◌, ℕ, zero, suc, ◌+◌, ◌*◌, ◌/◌, ◌%◌, ◌^◌, ◌<◌, Bool, true, false, cond, List, [], ◌∷◌, ◌++◌, find, map, get_or, slice_get, slice_index, Option, None, option_map, option_and_then, unwrap_or, is_some, mul_comm, refl, sym, ap, subst, ◌∙◌, arith}
+use Rattle.std.proofs.Common.{◌≡◌, ℕ, zero, suc, ◌+◌, ◌*◌, ◌/◌, ◌%◌, ◌^◌, ◌<◌, ◌≤◌, ◌||◌, Bool, true, false, cond, List, [], ◌∷◌, ◌++◌, find, map, get_or, slice_get, slice_index, Option, None, option_map, option_and_then, unwrap_or, is_some, mul_comm, refl, sym, ap, subst, ◌∙◌, ⊎_elim, arith}
 use Rattle.std.specs.FinMap.{get-empty}
 use Rattle.std.specs.Option.{option_map_or}
 use Rattle.std.specs.Ordering.{nat_cmp}
 use Rattle.std.specs.List.{All, flat_map, list_any, range_with_len}
 use Rattle.std.proofs.Math.Nat.{div-add-mod, mod-lt}
-use Rattle.std.proofs.lemmas.Bool.{false_from_ne_true, or_parts}
+use Rattle.std.proofs.lemmas.Bool.{cases_lt, false_from_ne_true, or_parts}
 use Rattle.std.proofs.lemmas.List.Elements.{All-nil}
 use Rattle.elf64_load.specs.Image.{ImageView, byte_at, content_at, holds as region_holds, in_one_stack, is_mapped}
+use Rattle.elf64_load.specs.Layout.{spans}
+use Rattle.elf64_load.specs.declared.span.Span.{Span}
 use Rattle.machine_config.specs.declared.config.Config.{Config}
 use Rattle.machine_config.specs.declared.config.Protocol.TheVariants.{Msi}
 use Rattle.cache_sets.specs.Caches.{empty_cache, empty_way, home_of, slot_of}
@@ -21,13 +23,18 @@ use Rattle.memory_contracts.specs.Protocol.Laws.{CurrentIsContent, LinesStayCohe
 use Rattle.memory_contracts.specs.Protocol.Lines.{Cell, Idle, Absent, all_mailed, cell, nobody, stance}
 use Rattle.memory_contracts.specs.Protocol.Messages.{Message}
 use Rattle.memory_contracts.specs.Protocol.NodeTable.{is_held}
+use Rattle.memory_contracts.specs.Kept.{mapped_in}
+use Rattle.memory_contracts.specs.Start.{IsStart}
+use Rattle.cache_levels.specs.Sizes.{IsLineSize}
 use Rattle.miss_registers.specs.Misses.{victim_of}
-use Rattle.node_memory.specs.Nodes.{NodeView, awaits, copy_of, empty_node, kept_as, no_misses}
+use Rattle.node_memory.specs.Nodes.{Coming, NodeView, awaits, copy_of, empty_node, kept_as, no_misses}
+use Rattle.node_memory.specs.Sound.{AreBefore}
 use Rattle.coherent_memory.specs.Fine.{IsFine, IsRightFlight, IsRightLetter, IsRightMail, IsRightNode, IsRightPost}
 use Rattle.coherent_memory.specs.First.{IsFirst}
 use Rattle.coherent_memory.specs.Stores as store
 use Rattle.coherent_memory.specs.Stores.{Shape, store_of}
 use Rattle.coherent_memory.specs.Systems.{System, alone, between, content, home_at, home_number, is_kept, line_of, of_flight, of_letter, of_mail, of_post}
+use Rattle.coherent_memory.specs.Wholes.{IsWhole}
 use Rattle.coherent_memory.proofs.Alike.{IsAlike-refl}
 use Rattle.coherent_memory.proofs.Soundness.{IsNothing, clash}
 
@@ -152,8 +159,8 @@ byte_at-unmapped image a none =
 module _ (stay : LinesStayCoherent) (order : OrderIsFree) (current : CurrentIsContent) (image : ImageView) (config : Config) (s : System) (some : 0 < config.processors) (first : IsFirst image config s)
     (shape : Shape) (nodes : shape.nodes ≡ config.processors) (bytes : shape.line_bytes ≡ config.line) (wide : 0 < config.line) where
   -- a line with a mapped byte is kept
-  pub kept-first : (a : ℕ) → a < 2 ^ 64 → is_mapped image a ≡ true → is_kept config.processors s (a / config.line) ≡ true
-  kept-first a fits mapped = (first.homes (home_number config.processors (a / config.line)) (mod-lt (a / config.line) some)).lines a fits mapped refl
+  pub kept-first : (a : ℕ) → is_mapped image a ≡ true → is_kept config.processors s (a / config.line) ≡ true
+  kept-first a mapped = (first.homes (home_number config.processors (a / config.line)) (mod-lt (a / config.line) some)).lines a mapped refl
 
   byte-first : (a : ℕ) → a < 2 ^ 64 → (b : Bool) → is_kept config.processors s (a / config.line) ≡ b →
       cond b (slice_index (content config.processors s (a / config.line)) (a % config.line)) 0 ≡ byte_at image a
@@ -165,10 +172,61 @@ module _ (stay : LinesStayCoherent) (order : OrderIsFree) (current : CurrentIsCo
       ∙ is.bytes.image_bytes (a % config.line) (mod-lt a wide) (omega (arith, parts, fits))
       ∙ ap (byte_at image) parts
   byte-first a fits false unkept =
-      sym (byte_at-unmapped image a (false_from_ne_true (is_mapped image a) (λ mapped. clash _ (kept-first a fits mapped) unkept)))
+      sym (byte_at-unmapped image a (false_from_ne_true (is_mapped image a) (λ mapped. clash _ (kept-first a mapped) unkept)))
 
   pub bytes-first : (a : ℕ) → a < 2 ^ 64 → store.byte_at shape s a ≡ byte_at image a
   bytes-first a fits =
       ap (λ (n : ℕ). cond (is_kept n s (a / shape.line_bytes)) (slice_index (content n s (a / shape.line_bytes)) (a % shape.line_bytes)) 0) nodes
       ∙ ap (λ (lb : ℕ). cond (is_kept config.processors s (a / lb)) (slice_index (content config.processors s (a / lb)) (a % lb)) 0) bytes
       ∙ byte-first a fits (is_kept config.processors s (a / config.line)) refl
+
+  -- each is a byte
+  pub small-first : (a : ℕ) → store.byte_at shape s a < 256
+  small-first a =
+      subst (λ (n : ℕ). cond (is_kept n s (a / shape.line_bytes)) (slice_index (content n s (a / shape.line_bytes)) (a % shape.line_bytes)) 0 < 256) (sym nodes)
+      (by (is_kept config.processors s (a / shape.line_bytes)) refl)
+    where
+      by : (b : Bool) → is_kept config.processors s (a / shape.line_bytes) ≡ b → cond b (slice_index (content config.processors s (a / shape.line_bytes)) (a % shape.line_bytes)) 0 < 256
+      by true kept =
+          let l = a / shape.line_bytes in
+          let is = (first.homes (home_number config.processors l) (mod-lt l some)).records l kept in
+          subst (λ (bs : List ℕ). slice_index bs (a % shape.line_bytes) < 256) (sym (content-first stay order current image config s some first l kept)) (is.bytes.small (a % shape.line_bytes))
+      by false unkept = omega arith
+
+  module _ (mapped : shape.mapped ≡ is_mapped image) (past : (p : ℕ) → config.processors ≤ p → IsNothing (s.nodes p)) where
+    nothing-first : (p : ℕ) → IsNothing (s.nodes p)
+    nothing-first p =
+        ⊎_elim (λ (below : p < config.processors). subst IsNothing (sym (first.nodes p below)) (nothing-empty config p))
+        (λ (beyond : config.processors ≤ p). past p beyond)
+        (cases_lt p config.processors)
+
+    pub start-first : IsStart image config (store_of shape 0 s)
+    start-first = record {
+      bytes = bytes-first;
+      mapped = mapped;
+      held = λ p l. (nothing-first p).held l;
+      near = λ p l. (nothing-first p).near l;
+      owned = λ p l. (nothing-first p).owned l;
+      wishes = λ p. (nothing-first p).wishes;
+      nodes = nodes;
+      line_bytes = bytes;
+      ticks = refl;
+    }
+
+    pub whole-first : IsLineSize shape.line_bytes → s.carrier.ticks ≡ 0 → IsWhole shape 0 s
+    whole-first size ticks = record {
+      size = size;
+      bytes = λ p below. ap (λ (v : NodeView). v.levels.line_bytes) (first.nodes p (subst (λ (n : ℕ). p < n) nodes below)) ∙ sym bytes;
+      fetched = λ p below. subst (AreBefore 0) (sym (ap (λ (v : NodeView). v.coming) (first.nodes p (subst (λ (n : ℕ). p < n) nodes below)))) (All-nil (λ (c : Coming). c.since < 0));
+      kept = λ a there.
+          ap (λ (n : ℕ). is_kept n s (a / shape.line_bytes)) nodes
+          ∙ (ap (λ (lb : ℕ). is_kept config.processors s (a / lb)) bytes
+          ∙ kept-first a (sym (ap (λ (f : ℕ → Bool). f a) mapped) ∙ there));
+      carrier = ticks;
+    }
+
+-- ---- what is mapped
+
+-- by the spans of an image what is mapped in it
+pub mapped-spans : (image : ImageView) (order copy : List Span) → copy ≡ order → ((a : ℕ) → list_any (λ x. spans a x) order ≡ list_any (region_holds a 1) image.regions) → mapped_in copy ≡ is_mapped image
+mapped-spans image order copy same is = λ i a. (ap (λ (xs : List Span). list_any (λ x. spans a x) xs || in_one_stack a 1) same ∙ ap (λ b. b || in_one_stack a 1) (is a)) i

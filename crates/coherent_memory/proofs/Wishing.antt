@@ -1,9 +1,8 @@
 -- A wish is one of the store.
-use Rattle.std.proofs.Common.{◌≡◌, ℕ, ◌&&◌, not, ◌==◌, Bool, true, false, cond, List, [], ◌∷◌, ◌++◌, refl, sym, ap, subst, ◌∙◌}
+use Rattle.std.proofs.Common.{◌≡◌, ℕ, ◌&&◌, not, ◌==◌, Bool, true, false, cond, [], ◌∷◌, ◌++◌, refl, sym, ap, subst, ◌∙◌}
 use Rattle.std.proofs.lemmas.Bool.{cond_both, eqb-true}
 use Rattle.memory_contracts.specs.Store as store
 use Rattle.memory_contracts.specs.Store.{StoreView, Wish}
-use Rattle.memory_contracts.specs.Updates.{with_at}
 use Rattle.node_memory.specs.Nodes.{NodeView, after_wish, is_covered, takes_wish}
 use Rattle.coherent_memory.specs.Fine.{HasKept}
 use Rattle.coherent_memory.specs.Stores.{Shape, byte_at, store_of}

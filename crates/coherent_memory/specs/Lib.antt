@@ -5,6 +5,7 @@ pub mod First
 pub mod HomeRows
 pub mod Laws
 pub mod Lost
+pub mod Memories
 pub mod NodeRows
 pub mod Rooms
 pub mod Rows

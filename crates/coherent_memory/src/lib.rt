@@ -4,6 +4,8 @@
 mod fabric;
 mod homes;
 mod laws;
+mod memory;
 mod nodes;
 
 pub use fabric::Fabric;
+pub use memory::CoherentMemory;

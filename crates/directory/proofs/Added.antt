@@ -1,8 +1,10 @@
 -- Lines that are added to a home.
-use Rattle.std.proofs.Common.{◌≡◌, ℕ, ◌/◌, ◌<◌, ◌≤◌, ◌==◌, Bool, true, false, cond, refl, sym, ap, subst, ◌∙◌, arith}
-use Rattle.std.proofs.Math.Nat.{div-mul-le_self}
+use Rattle.std.proofs.Common.{◌≡◌, ℕ, ◌+◌, ◌*◌, ◌/◌, ◌%◌, ◌<◌, ◌≤◌, ◌==◌, Bool, true, false, cond, refl, sym, ap, subst, ◌∙◌, arith}
+use Rattle.std.specs.Int.{div_ceil}
+use Rattle.std.proofs.Math.Nat.{div-lt_iff_lt-mul, div-mul-le_self}
+use Rattle.std.proofs.lemmas.Grind.{div_ceil_times}
 use Rattle.std.proofs.lemmas.Bool.{eqb-true, eq-eqb}
-use Rattle.std.proofs.lemmas.Nat.{le-div}
+use Rattle.std.proofs.lemmas.Nat.{div-add-mod', le-div}
 use Rattle.elf64_load.specs.Image.{ImageView}
 use Rattle.memory_contracts.specs.Protocol.Lines.{HomeRecord}
 use Rattle.directory.specs.Fresh.{AreMore, IsFresh}
@@ -47,3 +49,10 @@ pub line-rises : (a b line_bytes : ℕ) → 0 < line_bytes → a ≤ b → a / l
 line-rises a b line_bytes some rises =
     let low = div-mul-le_self a line_bytes in
     le-div (a / line_bytes) b line_bytes some (omega (arith, low, rises))
+
+-- the line of each of len bytes from first on is before the line behind them
+pub line-before : (first len a line_bytes lines : ℕ) → 0 < line_bytes → lines ≡ div_ceil (first % line_bytes + len) line_bytes → a < first + len → a / line_bytes < first / line_bytes + lines
+line-before first len a line_bytes lines some all high =
+    let parts = div-add-mod' first line_bytes in
+    let ceil : first % line_bytes + len ≤ lines * line_bytes = subst (λ n. first % line_bytes + len ≤ n * line_bytes) (sym all) (div_ceil_times (first % line_bytes + len) line_bytes some).0 in
+    (div-lt_iff_lt-mul some).1 (omega (arith, parts, ceil, high))

@@ -1,5 +1,5 @@
 -- The bytes of a line, as they are put down one after the other.
-use Rattle.std.proofs.Common.{◌≡◌, ◌≢◌, ◌⊎◌, inl, inr, ℕ, zero, suc, ◌+◌, ◌*◌, ◌^◌, ◌<◌, ◌≤◌, List, length, get_or, set, replicate, slice_index, refl, sym, ap, ◌∙◌, ⊎_elim, arith}
+use Rattle.std.proofs.Common.{◌≡◌, ◌≢◌, ◌⊎◌, inl, inr, ℕ, zero, suc, ◌+◌, ◌*◌, ◌^◌, ◌<◌, ◌≤◌, List, length, get_or, set, replicate, slice_index, refl, sym, ap, subst, ◌∙◌, ⊎_elim, arith}
 use Rattle.std.proofs.lemmas.Bool.{cases_order}
 use Rattle.std.proofs.lemmas.Grind.{get_or-set_at}
 use Rattle.std.proofs.lemmas.List.{get_or-set_other, length-replicate, length-set}
@@ -9,6 +9,7 @@ use Rattle.directory.specs.Start.{AreFirst}
 -- the first of them stand, and those behind are 0
 pub record AreFirstUpTo (image : ImageView) (line_bytes line count : ℕ) (bytes : List ℕ) : Type 0 where
   pub size : length bytes ≡ 128
+  pub small : (k : ℕ) → slice_index bytes k < 256
   pub image_bytes : (k : ℕ) → k < count → line * line_bytes + k < 2 ^ 64 → slice_index bytes k ≡ byte_at image (line * line_bytes + k)
   pub behind : (k : ℕ) → count ≤ k → slice_index bytes k ≡ 0
 
@@ -20,16 +21,22 @@ zeros (suc n) (suc k) = zeros n k
 pub first-none : (image : ImageView) (line_bytes line : ℕ) → AreFirstUpTo image line_bytes line 0 (replicate 128 0)
 first-none image line_bytes line = record {
   size = length-replicate {A = ℕ} 128 0;
+  small = λ k. subst (λ (b : ℕ). b < 256) (sym (zeros 128 k)) (omega arith);
   image_bytes = λ k below. absurd (omega (arith, below));
   behind = λ k above. zeros 128 k;
 }
 
-pub first-more : (image : ImageView) (line_bytes line count b : ℕ) (bytes : List ℕ) → count < 128 → AreFirstUpTo image line_bytes line count bytes → (line * line_bytes + count < 2 ^ 64 → b ≡ byte_at image (line * line_bytes + count)) →
+pub first-more : (image : ImageView) (line_bytes line count b : ℕ) (bytes : List ℕ) → count < 128 → b < 256 → AreFirstUpTo image line_bytes line count bytes → (line * line_bytes + count < 2 ^ 64 → b ≡ byte_at image (line * line_bytes + count)) →
     AreFirstUpTo image line_bytes line (count + 1) (set bytes count b)
-first-more image line_bytes line count b bytes few first here =
+first-more image line_bytes line count b bytes few small first here =
     let size = first.size in
     record {
       size = length-set bytes count b ∙ size;
+      small = λ k.
+          ⊎_elim
+          (λ (same : k ≡ count). subst (λ (x : ℕ). x < 256) (sym (get_or-set_at bytes count k b 0 same (omega (arith, few, size)))) small)
+          (λ other. subst (λ (x : ℕ). x < 256) (sym (get_or-set_other bytes count k b 0 (apart k count other))) (first.small k))
+          (cases_order k count);
       image_bytes = λ k below fits.
           ⊎_elim
           (λ (same : k ≡ count). get_or-set_at bytes count k b 0 same (omega (arith, few, size)) ∙ here (omega (arith, fits, same)) ∙ ap (λ j. byte_at image (line * line_bytes + j)) (sym same))
@@ -49,6 +56,7 @@ first-more image line_bytes line count b bytes few first here =
 pub first-all : (image : ImageView) (line_bytes line count : ℕ) (bytes : List ℕ) → count ≡ line_bytes → AreFirstUpTo image line_bytes line count bytes → AreFirst image line_bytes line bytes
 first-all image line_bytes line count bytes whole first = record {
   size = first.size;
+  small = first.small;
   image_bytes = λ k below fits. first.image_bytes k (omega (arith, below, whole)) fits;
   behind = λ k above. first.behind k (omega (arith, above, whole));
 }

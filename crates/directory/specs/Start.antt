@@ -8,6 +8,7 @@ use Rattle.directory.specs.Homes.{HomeView}
 -- the bytes of a line: those of the image as far as there are addresses, and zeros behind the line
 pub record AreFirst (image : ImageView) (line_bytes line : ℕ) (bytes : List ℕ) : Type 0 where
   pub size : length bytes ≡ 128
+  pub small : (k : ℕ) → slice_index bytes k < 256
   pub image_bytes : (k : ℕ) → k < line_bytes → line * line_bytes + k < 2 ^ 64 → slice_index bytes k ≡ byte_at image (line * line_bytes + k)
   pub behind : (k : ℕ) → line_bytes ≤ k → slice_index bytes k ≡ 0
 
@@ -20,7 +21,7 @@ pub record IsFirst (image : ImageView) (line_bytes line : ℕ) (h : HomeRecord) 
 
 -- The home of node h keeps each of its lines that has a mapped byte, nobody has any, and nothing waits or is to be sent.
 pub record IsStart (image : ImageView) (config : Config) (h : ℕ) (v : HomeView) : Type 0 where
-  pub lines : (a : ℕ) → a < 2 ^ 64 → is_mapped image a ≡ true → a / config.line % config.processors ≡ h → v.lines (a / config.line) ≡ true
+  pub lines : (a : ℕ) → is_mapped image a ≡ true → a / config.line % config.processors ≡ h → v.lines (a / config.line) ≡ true
   pub records : (l : ℕ) → v.lines l ≡ true → IsFirst image config.line l (v.records l)
   pub waiting : v.waiting ≡ []
   pub outgoing : v.outgoing ≡ []

@@ -25,7 +25,7 @@ pub struct Share {
     pub line_bytes: u64,
     pub nodes: u64,
     pub home: Node,
-    ghost some: { 0 < line_bytes },
+    ghost some: { 1 < line_bytes },
     ghost few: { line_bytes ≤ 128 },
     ghost node: { 0 < nodes },
 }
@@ -54,7 +54,7 @@ impl Share {
     /// Where memory is short.
     pub fn records(&self, alloc: Global, image: &Image) -> Result<Records, NoMemory>
         ensures fresh { IfOk result (λ made. IsFresh image.now self.now.line_bytes made) }
-        ensures there { IfOk result (λ made. (a : ℕ) → a < 2 ^ 64 → is_mapped image.now a ≡ true → a / self.now.line_bytes % self.now.nodes ≡ self.now.home.0 → has_line made (a / self.now.line_bytes) ≡ true) }
+        ensures there { IfOk result (λ made. (a : ℕ) → is_mapped image.now a ≡ true → a / self.now.line_bytes % self.now.nodes ≡ self.now.home.0 → has_line made (a / self.now.line_bytes) ≡ true) }
     {
         let mut records = Records::new(alloc);
         self.add_spans(&mut records, image, image.spans())?;
@@ -71,7 +71,7 @@ impl Share {
     ) -> Result<(), NoMemory>
         requires fresh { IsFresh image.now self.now.line_bytes records.old }
         ensures more { OnOk result (AreMore image.now self.now.line_bytes records.old records.new) }
-        ensures there { OnOk result ((a : ℕ) → a < 2 ^ 64 → list_any (λ s. spans a s) order.now ≡ true → a / self.now.line_bytes % self.now.nodes ≡ self.now.home.0 → has_line records.new (a / self.now.line_bytes) ≡ true) }
+        ensures there { OnOk result ((a : ℕ) → list_any (λ s. spans a s) order.now ≡ true → a / self.now.line_bytes % self.now.nodes ≡ self.now.home.0 → has_line records.new (a / self.now.line_bytes) ≡ true) }
     {
         for span in order {
             self.add_range(records, image, span.first, span.len)?;
@@ -89,34 +89,28 @@ impl Share {
     ) -> Result<(), NoMemory>
         requires fresh { IsFresh image.now self.now.line_bytes records.old }
         ensures more { OnOk result (AreMore image.now self.now.line_bytes records.old records.new) }
-        ensures there { OnOk result ((a : ℕ) → a < 2 ^ 64 → first ≤ a → a < first + len → a / self.now.line_bytes % self.now.nodes ≡ self.now.home.0 → has_line records.new (a / self.now.line_bytes) ≡ true) }
+        ensures there { OnOk result ((a : ℕ) → first ≤ a → a < first + len → a / self.now.line_bytes % self.now.nodes ≡ self.now.home.0 → has_line records.new (a / self.now.line_bytes) ≡ true) }
     {
-        if len == 0 {
-            return Ok(());
-        }
-        let last = first.saturating_add(u64::from(len - 1));
-        self.add_lines(
-            records,
-            image,
-            first / self.line_bytes,
-            last / self.line_bytes,
-        )?;
+        let from = first / self.line_bytes;
+        let span = first % self.line_bytes + u64::from(len);
+        let until = from + span.div_ceil(self.line_bytes);
+        self.add_lines(records, image, from, until)?;
         Ok(())
     }
 
-    // Adds the lines from one number to another.
+    // Adds the lines from one number on, up to another.
     fn add_lines(
         &self,
         records: &mut Records,
         image: &Image,
-        first: u64,
-        last: u64,
+        from: u64,
+        until: u64,
     ) -> Result<(), NoMemory>
         requires fresh { IsFresh image.now self.now.line_bytes records.old }
         ensures more { OnOk result (AreMore image.now self.now.line_bytes records.old records.new) }
-        ensures there { OnOk result ((l : ℕ) → first ≤ l → l ≤ last → l % self.now.nodes ≡ self.now.home.0 → has_line records.new l ≡ true) }
+        ensures there { OnOk result ((l : ℕ) → from ≤ l → l < until → l % self.now.nodes ≡ self.now.home.0 → has_line records.new l ≡ true) }
     {
-        for number in first..=last {
+        for number in from..until {
             self.add_line(records, image, number)?;
         }
         Ok(())

@@ -1,9 +1,12 @@
-use Rattle.std.proofs.Common.{◌/◌, ◌≤◌, arith}
-use Rattle.directory.proofs.Added.{line-rises}
+use Rattle.std.proofs.Common.{◌≡◌, ◌+◌, ◌/◌, ◌%◌, ◌<◌, subst, arith}
+use Rattle.std.specs.Int.{div_ceil}
+use Rattle.directory.proofs.Added.{line-before, line-rises}
 use Rattle.directory.proofs.share.Share.add_range.Goals as goal
 
 pub returns-clause-there : goal.returns-clause-there
-returns-clause-there c = λ a fits low high share.
+returns-clause-there c = λ a low high share.
     let s = c.args.self.now in
-    let last : a ≤ c.saturating_add-last.result = omega (arith, fits, high, c.saturating_add-last.ensures, c.from.ensures, c.if-len-eq0.false) in
-    c.in_ok-add_lines.ensures.there (a / s.line_bytes) (line-rises c.args.first a s.line_bytes s.some low) (line-rises a c.saturating_add-last.result s.line_bytes s.some last) share
+    let wide = s.some in
+    let some : 0 < s.line_bytes = omega (arith, wide) in
+    let all = subst (λ len. c.div_ceil.result ≡ div_ceil (c.args.first % s.line_bytes + len) s.line_bytes) c.from.ensures c.div_ceil.ensures in
+    c.in_ok-add_lines.ensures.there (a / s.line_bytes) (line-rises c.args.first a s.line_bytes some low) (line-before c.args.first c.args.len a s.line_bytes c.div_ceil.result some all high) share

@@ -9,6 +9,6 @@ nowhere : Span
 nowhere = record { first = 0; len = 0; place = 0 }
 
 pub returns-clause-there : goal.returns-clause-there
-returns-clause-there c = λ a fits any share.
+returns-clause-there c = λ a any share.
     let (k, below, here) = any-at (spans a) c.args.order.now any in
-    c.loop-span.invariant.there k nowhere (omega arith) a fits (here nowhere) share
+    c.loop-span.invariant.there k nowhere (omega arith) a (here nowhere) share

@@ -10,7 +10,7 @@ loop-place-preserved c =
     let s = c.args.self.now in
     let few = s.few in
     let place : c.loop-place.place < 128 = omega (arith, few, c.loop-place-test.true) in
-    first-more c.args.image.now s.line_bytes c.args.number c.loop-place.place c.byte.result c.loop-place.bytes place c.loop-place.invariant c.byte.ensures
+    first-more c.args.image.now s.line_bytes c.args.number c.loop-place.place c.byte.result c.loop-place.bytes place c.byte.type_inv c.loop-place.invariant c.byte.ensures
 
 pub returns : goal.returns
 returns c =

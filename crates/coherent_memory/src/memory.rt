@@ -1,0 +1,119 @@
+// The memory that nodes share.
+ghost use Rattle.std.specs.Prelude.{◌≡◌, ℕ, ◌+◌, ◌/◌, ◌%◌, ◌<◌, IfOk};
+ghost use Rattle.rsim_base.specs.Bytes.{count_of};
+ghost use Rattle.machine_config.specs.Allowed.{IsAllowed};
+ghost use Rattle.memory_contracts.specs.Bags.{no_flights};
+ghost use Rattle.memory_contracts.specs.Start.{IsStart};
+ghost use Rattle.memory_contracts.specs.Store.{IsSound};
+ghost use Rattle.coherent_memory.specs.Stores.{store_of};
+ghost use Rattle.coherent_memory.specs.Fabrics.{system_with};
+ghost use Rattle.coherent_memory.specs.Wholes.{IsWhole, shape_of};
+
+use crate::fabric::Fabric;
+use crate::laws::{nearness_stays, nodes_keep_lines};
+use elf64_load::{Image, Span};
+use machine_config::Config;
+use memory_contracts::{Carrier, CoherentStore, LostList, lines_stay_coherent};
+use node_memory::tables_follow;
+use rsim_base::{Addr, Line, NoMemory, Node, Size};
+use std::alloc::Global;
+
+/// Memory that nodes share: each node has two levels of caches and the home of a share of the lines, and messages between
+/// them go over a carrier. Each line is coherent: whoever may read it reads its content, and whoever may write it is alone
+/// with it.
+#[derive(Drop)]
+pub struct CoherentMemory<C: Carrier> {
+    fabric: Fabric<C>,
+    // Which addresses have memory beside the stacks.
+    spans: Vec<Span>,
+    line_bytes: u64,
+    ticks: u32,
+    ghost whole: { IsWhole (shape_of fabric.count spans.items line_bytes) ticks (system_with fabric.homes fabric.nodes (C.meaning fabric.carrier)) },
+    ghost sound: { IsSound (store_of (shape_of fabric.count spans.items line_bytes) ticks (system_with fabric.homes fabric.nodes (C.meaning fabric.carrier))) },
+}
+
+impl<C: Carrier + Drop> CoherentMemory<C> {
+    ghost use Rattle.coherent_memory.specs.Memories.{store_in};
+
+    /// The memory that an image and a configuration give, over a carrier of the same configuration that is empty and has not
+    /// ticked.
+    ///
+    /// # Errors
+    /// Where memory is short. No later call takes memory.
+    pub fn make(
+        alloc: Global,
+        image: &Image,
+        config: &Config,
+        carrier: C,
+    ) -> Result<CoherentMemory<C>, NoMemory>
+        requires allowed { IsAllowed config.now }
+        requires carrier { C.meaning carrier ≡ no_flights config.now }
+        ensures start { IfOk result (λ made. IsStart image.now config.now (store_in C.meaning made)) }
+        ensures bytes { IfOk result (λ made. (a : ℕ) → (store_in C.meaning made).bytes a < 256) }
+    {
+        lines_stay_coherent();
+        tables_follow();
+        let fabric = Fabric::make(alloc, image, config, carrier)?;
+        let Ok(spans) = Vec::from_slice(alloc, image.spans()) else {
+            return Err(NoMemory);
+        };
+        Ok(CoherentMemory {
+            fabric,
+            spans,
+            line_bytes: u64::from(config.line),
+            ticks: 0,
+        })
+    }
+}
+
+impl<C: Carrier> CoherentStore for CoherentMemory<C> {
+    ghost use Rattle.coherent_memory.specs.Memories.{memory_of, store_in};
+    ghost use Rattle.coherent_memory.specs.Turns.{HasTicked};
+    ghost use Rattle.memory_contracts.specs.Store.{Ticks};
+
+    ghost meaning = { λ s. store_in C.meaning s };
+
+    fn read(&mut self, p: Node, a: Addr, n: Size) -> Option<u64> {
+        lines_stay_coherent();
+        nearness_stays();
+        tables_follow();
+        self.fabric.read(p, a, n)
+    }
+
+    fn write(&mut self, p: Node, a: Addr, n: Size, v: u64) -> bool {
+        lines_stay_coherent();
+        nearness_stays();
+        nodes_keep_lines();
+        tables_follow();
+        cache_levels::written_bytes_read_back();
+        self.fabric.write(p, a, n, v)
+    }
+
+    fn wish(&mut self, p: Node, line: Line, own: bool) -> bool {
+        lines_stay_coherent();
+        tables_follow();
+        self.fabric.wish(p, line, own)
+    }
+
+    fn is_near(&self, p: Node, line: Line) -> bool {
+        self.fabric.is_near(p, line)
+    }
+
+    fn is_owned(&self, p: Node, line: Line) -> bool {
+        self.fabric.is_owned(p, line)
+    }
+
+    // A turn of each node, in rising order, and then a tick of the carrier.
+    fn tick(&mut self, lost: &mut LostList)
+        requires few { (store_in C.meaning self.old).ticks < 4294967295 }
+        ensures ticks { Ticks (store_in C.meaning self.old) (store_in C.meaning self.new) lost.new.items }
+        ensures exactly { HasTicked (store_in C.meaning self.old).nodes (store_in C.meaning self.old).ticks (memory_of C.meaning self.old) (memory_of C.meaning self.new) lost.new.items }
+    {
+        lines_stay_coherent();
+        tables_follow();
+        self.fabric.tick(u64::from(self.ticks), lost);
+        self.ticks += 1;
+    }
+
+    ghost sound = { λ s. s.sound };
+}
