@@ -102,7 +102,7 @@ static inline uint64_t fetch_and_add(volatile uint64_t *at, uint64_t amount)
 }
 
 /* Spends some forty cycles without an access. A loop that waits for another processor calls it, so that the line that
-   it looks at has time to go to the others: a line is with one processor at a time. */
+   it looks at has time to go to the others: without a pause it would be asked for again and again. */
 static inline void relax(void)
 {
     for (int i = 0; i < 16; i++)

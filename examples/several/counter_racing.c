@@ -2,8 +2,8 @@
    store the same sum, so that one of the two rounds is lost. Each access by itself is performed as a whole, and every
    consistency model has this order, the strictest too: what is missing is a lock, not a fence.
 
-   On this machine both first loads come before either store. While one processor adds, the line goes to the next one,
-   which loads the number as it was. */
+   On this machine a processor that owns the line makes rounds until the line is called back. The other then loads the
+   number, or waits to store its own sum while the first makes more rounds, and stores over all of them. */
 #include "rsim.h"
 
 enum { ROUNDS = 240 };          /* of all processors together */

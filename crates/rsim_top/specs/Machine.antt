@@ -3,9 +3,10 @@ use Rattle.std.specs.Prelude.{ℕ, List, length, map}
 use Rattle.rsim_base.specs.declared.memory.Access.{Access}
 use Rattle.rsim_base.specs.declared.memory.Model.{Model}
 use Rattle.sparc_meaning.specs.declared.arch.End.{End}
-use Rattle.memory_contracts.specs.Flat.{store_of}
-use Rattle.memory_contracts.specs.FlatStores.{flat_of}
-use Rattle.memory_contracts.specs.declared.flat.FlatStore.{FlatStore}
+use Rattle.memory_contracts.specs.BagCarriers.{bag_of}
+use Rattle.memory_contracts.specs.declared.bag.BagCarrier.{BagCarrier}
+use Rattle.coherent_memory.specs.Memories.{store_in}
+use Rattle.coherent_memory.specs.declared.memory.CoherentMemory.{CoherentMemory}
 use Rattle.order_certificate.specs.Certificate.{CertificateView, text_of}
 use Rattle.cycle_loop.specs.Answers.{waiting_stores}
 use Rattle.cycle_loop.specs.Machine.{MachineView}
@@ -13,9 +14,9 @@ use Rattle.cycle_loop.specs.MachineOf.{view_of}
 use Rattle.cycle_loop.specs.declared.machine.Machine.{Machine}
 use Rattle.rsim_top.specs.ReportText.{no_counts, report}
 
--- a machine over a store without caches
-abbrev pub flat_view : {b : _} → Machine FlatStore b → MachineView
-flat_view m = view_of (λ (s : FlatStore). store_of (flat_of s)) m
+-- a machine over caches and directories, whose messages are kept in a list
+abbrev pub shared_view : {c b : _} → Machine (CoherentMemory BagCarrier c) b → MachineView
+shared_view {c} m = view_of (λ (s : CoherentMemory BagCarrier c). store_in bag_of s) m
 
 -- by processor: the retired steps, how it stands, and what it has put
 abbrev pub counts_of : MachineView → List ℕ

@@ -6,7 +6,8 @@ use Rattle.command_words.specs.Reading.{executable_of}
 use Rattle.machine_config.specs.declared.config.Config.{Config}
 use Rattle.machine_config.specs.Allowed.{IsAllowed, is_short}
 use Rattle.machine_config.specs.Faults.{Reads}
-use Rattle.memory_contracts.specs.declared.flat.FlatStore.{FlatStore}
+use Rattle.memory_contracts.specs.declared.bag.BagCarrier.{BagCarrier}
+use Rattle.coherent_memory.specs.declared.memory.CoherentMemory.{CoherentMemory}
 use Rattle.cycle_loop.specs.Machine.{MachineView}
 use Rattle.cycle_loop.specs.declared.machine.Machine.{Machine}
 use Rattle.elf64_load.specs.Image.{ImageView}
@@ -16,7 +17,7 @@ use Rattle.rsim_top.specs.declared.refusal.File.TheVariants as file
 use Rattle.rsim_top.specs.declared.refusal.Refusal.{Refusal}
 use Rattle.rsim_top.specs.declared.refusal.Refusal.TheVariants.{Write, Memory}
 use Rattle.rsim_top.specs.Outside.{Shelf, Sink, HasFile, HasPrefixOfFile, HasWritten, HasPrefixWritten, MayFail}
-use Rattle.rsim_top.specs.Machine.{flat_view}
+use Rattle.rsim_top.specs.Machine.{shared_view}
 use Rattle.rsim_top.specs.Run.{HasRun}
 use Rattle.rsim_top.specs.Steps.{setup_refusal, image_refusal}
 use Rattle.rsim_top.specs.TwoFiles.{IsFetched, fetch_refusal}
@@ -49,8 +50,8 @@ pub record RanImage (exe : List ℕ) (config : Config) (cycles : ℕ) (v : Machi
   pub ran : HasRun image config cycles v
 
 -- ...or why it was not run
-abbrev pub Runs : {b : _} → List ℕ → Config → ℕ → Result (Machine FlatStore b) Refusal → Type 0
-Runs exe config cycles (Ok m) = RanImage exe config cycles (flat_view m)
+abbrev pub Runs : {c b : _} → List ℕ → Config → ℕ → Result (Machine (CoherentMemory BagCarrier c) b) Refusal → Type 0
+Runs exe config cycles (Ok m) = RanImage exe config cycles (shared_view m)
 Runs exe config cycles (Err why) = (why ≡ Memory) ⊎ (image_refusal exe ≡ Some why)
 
 -- the file of the order, as far as it was written

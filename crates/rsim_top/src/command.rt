@@ -5,20 +5,18 @@ ghost use Rattle.cycle_loop.specs.Answers.{all_retired as all_retired_of};
 ghost use Rattle.machine_config.specs.Allowed.{IsAllowed, is_short};
 ghost use Rattle.rsim_top.specs.Answers.{Answers, AnswersFile};
 ghost use Rattle.rsim_top.specs.Causes.{IsExact, IsComplete};
-ghost use Rattle.rsim_top.specs.Machine.{flat_view, order_of, report_of};
+ghost use Rattle.rsim_top.specs.Machine.{shared_view, order_of, report_of};
 ghost use Rattle.rsim_top.specs.Outside.{outside, shelf_of, sink_of};
 ghost use Rattle.rsim_top.specs.Parts.{asked_by, Fetches, Kept, SetsUp, Runs, StoresOrder, PutsReport};
 ghost use Rattle.rsim_top.specs.Refusals.{write_refusal_of};
 
-use crate::machine::run;
+use crate::machine::{SharedMachine, run};
 use crate::order_file::store_order;
 use crate::refusal::{File, Refusal};
 use crate::report_text::report_text;
 use command_words::{BadWords, Executable, RunWords, read_run};
-use cycle_loop::Machine;
 use elf64_load::{ElfFault, load};
 use machine_config::{Config, ConfigFault, fits, read as read_config};
-use memory_contracts::FlatStore;
 use rsim_base::{Model, NoMemory, Node};
 use rsim_io::{FetchFault, Shelf, Sink, StoreFault};
 use std::alloc::Global;
@@ -165,7 +163,7 @@ fn run_file(
     file: &[u8],
     config: Config,
     cycles: u32,
-) -> Result<Machine<FlatStore>, Refusal>
+) -> Result<SharedMachine, Refusal>
     requires allowed { IsAllowed config }
     requires short { is_short config cycles ≡ true }
     ensures { Runs file.now config cycles result }
@@ -186,15 +184,15 @@ fn write_order<S: Shelf>(
     alloc: Global,
     name: &str,
     model: Model,
-    machine: &mut Machine<FlatStore>,
+    machine: &mut SharedMachine,
     shelf: &mut S,
 ) -> Result<(), Refusal>
-    requires retired { All (λ x. x.retired ≡ true) (flat_view machine.old).log }
+    requires retired { All (λ x. x.retired ≡ true) (shared_view machine.old).log }
     ensures stored { StoresOrder (shelf_of S.holds S.faults S.sure shelf.old) (shelf_of S.holds S.faults S.sure shelf.new)
-        name.now (order_of model (flat_view machine.old)) result }
+        name.now (order_of model (shared_view machine.old)) result }
     ensures kept { Kept (shelf_of S.holds S.faults S.sure shelf.old) (shelf_of S.holds S.faults S.sure shelf.new) }
-    ensures cores { (flat_view machine.new).cores ≡ (flat_view machine.old).cores }
-    ensures cycles { (flat_view machine.new).cycles ≡ (flat_view machine.old).cycles }
+    ensures cores { (shared_view machine.new).cores ≡ (shared_view machine.old).cores }
+    ensures cycles { (shared_view machine.new).cycles ≡ (shared_view machine.old).cycles }
 {
     match store_order(alloc, name, model, machine, shelf) {
         Ok(()) => Ok(()),
@@ -203,13 +201,9 @@ fn write_order<S: Shelf>(
 }
 
 // Writes the report of a machine that has run.
-fn write_report<K: Sink>(
-    alloc: Global,
-    machine: &Machine<FlatStore>,
-    out: &mut K,
-) -> Result<(), Refusal>
+fn write_report<K: Sink>(alloc: Global, machine: &SharedMachine, out: &mut K) -> Result<(), Refusal>
     ensures put { PutsReport (sink_of K.written K.faults K.sure out.old) (sink_of K.written K.faults K.sure out.new)
-        (report_of (flat_view machine.now)) result }
+        (report_of (shared_view machine.now)) result }
     ensures faults { K.faults out.old ≤ K.faults out.new }
 {
     let Ok(text) = report_text(alloc, machine) else {
@@ -222,8 +216,8 @@ fn write_report<K: Sink>(
 }
 
 // The steps that all processors have retired together.
-fn all_retired(machine: &Machine<FlatStore>) -> u64
-    ensures { result ≡ all_retired_of (flat_view machine.now).cores }
+fn all_retired(machine: &SharedMachine) -> u64
+    ensures { result ≡ all_retired_of (shared_view machine.now).cores }
 {
     let mut steps = 0u64;
     for p in 0..machine.processors() {

@@ -3,12 +3,11 @@ ghost use Rattle.std.specs.Prelude.{◌≡◌, ◌≤◌, IfOk, OnOk, OnErr, IsE
 ghost use Rattle.std.specs.List.{All, flat_map};
 ghost use Rattle.order_certificate.specs.OrderText.{line};
 ghost use Rattle.rsim_io.specs.Faults.{HasCause};
-ghost use Rattle.rsim_top.specs.Machine.{accesses_of, counts_of, flat_view, order_of};
+ghost use Rattle.rsim_top.specs.Machine.{accesses_of, counts_of, shared_view, order_of};
 ghost use Rattle.rsim_top.specs.Outside.{HasFile, HasPrefixOfFile};
 ghost use Rattle.rsim_top.specs.Pieces.{GoesOn};
 
-use cycle_loop::Machine;
-use memory_contracts::FlatStore;
+use crate::machine::SharedMachine;
 use order_certificate::{begin, entry, finish};
 use rsim_base::{Access, Model, NoMemory, Node};
 use rsim_io::{Shelf, StoreFault};
@@ -27,17 +26,17 @@ pub(crate) fn store_order<S: Shelf>(
     alloc: Global,
     name: &str,
     model: Model,
-    machine: &mut Machine<FlatStore>,
+    machine: &mut SharedMachine,
     shelf: &mut S,
 ) -> Result<(), StoreFault>
-    requires retired { All (λ x. x.retired ≡ true) (flat_view machine.old).log }
-    ensures stored { OnOk result (HasFile name.now (order_of model (flat_view machine.old)) (S.holds shelf.old) (S.holds shelf.new)) }
-    ensures part { OnErr result (HasPrefixOfFile name.now (order_of model (flat_view machine.old)) (S.holds shelf.old) (S.holds shelf.new)) }
+    requires retired { All (λ x. x.retired ≡ true) (shared_view machine.old).log }
+    ensures stored { OnOk result (HasFile name.now (order_of model (shared_view machine.old)) (S.holds shelf.old) (S.holds shelf.new)) }
+    ensures part { OnErr result (HasPrefixOfFile name.now (order_of model (shared_view machine.old)) (S.holds shelf.old) (S.holds shelf.new)) }
     ensures cause { HasCause (IsErrOf result StoreFault.Failed) (S.faults shelf.old) (S.faults shelf.new) }
     ensures sure { S.sure shelf.new ≡ S.sure shelf.old }
     ensures sure_to_store { IsTrue (S.sure shelf.old) → IsErrOf result StoreFault.Failed → ⊥ }
-    ensures cores { (flat_view machine.new).cores ≡ (flat_view machine.old).cores }
-    ensures cycles { (flat_view machine.new).cycles ≡ (flat_view machine.old).cycles }
+    ensures cores { (shared_view machine.new).cores ≡ (shared_view machine.old).cores }
+    ensures cycles { (shared_view machine.new).cycles ≡ (shared_view machine.old).cycles }
 {
     shelf.create(name)?;
     let mut piece = Vec::new(alloc);
@@ -57,17 +56,17 @@ pub(crate) fn store_order<S: Shelf>(
 // Writes the lines of all accesses behind what is written so far.
 fn store_lines<S: Shelf>(
     name: &str,
-    machine: &mut Machine<FlatStore>,
+    machine: &mut SharedMachine,
     piece: &mut Vec<u8>,
     shelf: &mut S,
 ) -> Result<(), StoreFault>
-    requires retired { All (λ x. x.retired ≡ true) (flat_view machine.old).log }
-    ensures written { GoesOn name.now (flat_map line (accesses_of (flat_view machine.old))) (S.holds shelf.old) piece.old.items (S.holds shelf.new) piece.new.items result }
+    requires retired { All (λ x. x.retired ≡ true) (shared_view machine.old).log }
+    ensures written { GoesOn name.now (flat_map line (accesses_of (shared_view machine.old))) (S.holds shelf.old) piece.old.items (S.holds shelf.new) piece.new.items result }
     ensures cause { HasCause (IsErrOf result StoreFault.Failed) (S.faults shelf.old) (S.faults shelf.new) }
     ensures sure { S.sure shelf.new ≡ S.sure shelf.old }
     ensures sure_to_store { IsTrue (S.sure shelf.old) → IsErrOf result StoreFault.Failed → ⊥ }
-    ensures cores { (flat_view machine.new).cores ≡ (flat_view machine.old).cores }
-    ensures cycles { (flat_view machine.new).cycles ≡ (flat_view machine.old).cycles }
+    ensures cores { (shared_view machine.new).cores ≡ (shared_view machine.old).cores }
+    ensures cycles { (shared_view machine.new).cycles ≡ (shared_view machine.old).cycles }
 {
     while let Some(access) = machine.take_final() {
         store_line(name, &access, piece, shelf)?;
@@ -98,8 +97,8 @@ fn store_line<S: Shelf>(
 }
 
 // By processor, the steps that it has retired.
-fn retired_counts(alloc: Global, machine: &Machine<FlatStore>) -> Result<Vec<u32>, NoMemory>
-    ensures { IfOk result (λ counts. counts.items ≡ counts_of (flat_view machine.now)) }
+fn retired_counts(alloc: Global, machine: &SharedMachine) -> Result<Vec<u32>, NoMemory>
+    ensures { IfOk result (λ counts. counts.items ≡ counts_of (shared_view machine.now)) }
 {
     let mut counts = Vec::new(alloc);
     for p in 0..machine.processors() {

@@ -1,11 +1,10 @@
 // The text of a report.
 ghost use Rattle.std.specs.Prelude.{◌≡◌, ◌++◌, IfOk, OnOk, Some, codes};
-ghost use Rattle.rsim_top.specs.Machine.{counts_of, ends_of, flat_view, outputs_of, report_of};
+ghost use Rattle.rsim_top.specs.Machine.{counts_of, ends_of, shared_view, outputs_of, report_of};
 ghost use Rattle.rsim_top.specs.ReportText.{end_text, no_counts, output_text, outputs_text, processor_line, processor_lines, report_foot, report_head};
 
+use crate::machine::SharedMachine;
 use crate::text::{push, push_decimal};
-use cycle_loop::Machine;
-use memory_contracts::FlatStore;
 use rsim_base::{NoMemory, Node};
 use sparc_meaning::End;
 use std::alloc::Global;
@@ -35,8 +34,8 @@ impl fmt::Display for Ending {
 ///
 /// # Errors
 /// Where memory is short.
-pub(crate) fn report_text(alloc: Global, machine: &Machine<FlatStore>) -> Result<Vec<u8>, NoMemory>
-    ensures { IfOk result (λ text. text.items ≡ report_of (flat_view machine.now)) }
+pub(crate) fn report_text(alloc: Global, machine: &SharedMachine) -> Result<Vec<u8>, NoMemory>
+    ensures { IfOk result (λ text. text.items ≡ report_of (shared_view machine.now)) }
 {
     let mut text = Vec::new(alloc);
     push_head(&mut text, machine.cycles())?;
@@ -57,9 +56,9 @@ fn push_head(text: &mut Vec<u8>, cycles: u32) -> Result<(), NoMemory>
 fn push_processors(
     text: &mut Vec<u8>,
     alloc: Global,
-    machine: &Machine<FlatStore>,
+    machine: &SharedMachine,
 ) -> Result<(), NoMemory>
-    ensures { OnOk result (text.new.items ≡ text.old.items ++ processor_lines 0 (counts_of (flat_view machine.now)) (ends_of (flat_view machine.now))) }
+    ensures { OnOk result (text.new.items ≡ text.old.items ++ processor_lines 0 (counts_of (shared_view machine.now)) (ends_of (shared_view machine.now))) }
 {
     for p in 0..machine.processors() {
         let retired = machine.retired(Node(p));
@@ -86,8 +85,8 @@ fn push_processor(
 }
 
 // The output of each processor, behind its length.
-fn push_outputs(text: &mut Vec<u8>, machine: &Machine<FlatStore>) -> Result<(), NoMemory>
-    ensures { OnOk result (text.new.items ≡ text.old.items ++ outputs_text 0 (outputs_of (flat_view machine.now))) }
+fn push_outputs(text: &mut Vec<u8>, machine: &SharedMachine) -> Result<(), NoMemory>
+    ensures { OnOk result (text.new.items ≡ text.old.items ++ outputs_text 0 (outputs_of (shared_view machine.now))) }
 {
     for p in 0..machine.processors() {
         push_output(text, p, machine.output(Node(p)))?;

@@ -1,12 +1,12 @@
 use Rattle.std.proofs.Common.{◌≡◌, ◌++◌, ap, sym, ◌∙◌, arith}
-use Rattle.rsim_top.specs.Machine.{flat_view}
+use Rattle.rsim_top.specs.Machine.{shared_view}
 use Rattle.rsim_top.specs.ReportText.{output_text}
 use Rattle.rsim_top.proofs.Texts.{IsOf-map, output_of, outputs_from, outputs_put, put_more}
 use Rattle.rsim_top.proofs.report_text.push_outputs.Goals as goal
 
 pub loop-p-preserved : goal.loop-p-preserved
 loop-p-preserved c =
-    let v = flat_view c.args.machine.now in
+    let v = shared_view c.args.machine.now in
     let p = c.loop-p.p in
     let old = c.loop-p.text.items in
     let new = c.push_output.new.text.items in

@@ -1,13 +1,13 @@
 use Rattle.std.proofs.Common.{◌≡◌, ◌++◌, ap, sym, ◌∙◌, arith}
 use Rattle.sparc_meaning.specs.declared.arch.End.{End}
-use Rattle.rsim_top.specs.Machine.{flat_view}
+use Rattle.rsim_top.specs.Machine.{shared_view}
 use Rattle.rsim_top.specs.ReportText.{processor_line}
 use Rattle.rsim_top.proofs.Texts.{IsOf-both, line_of, lines_from, lines_put, put_more}
 use Rattle.rsim_top.proofs.report_text.push_processors.Goals as goal
 
 pub loop-p-preserved : goal.loop-p-preserved
 loop-p-preserved c =
-    let v = flat_view c.args.machine.now in
+    let v = shared_view c.args.machine.now in
     let p = c.loop-p.p in
     let old = c.loop-p.text.items in
     let new = c.push_processor.new.text.items in
