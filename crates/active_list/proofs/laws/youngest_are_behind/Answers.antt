@@ -1,5 +1,8 @@
-use Rattle.active_list.proofs.Rising.{push_keeps, retire_keeps, pops_keep}
+use Rattle.active_list.proofs.Rising.{none_is_after, push_keeps, retire_keeps, pops_keep}
 use Rattle.active_list.proofs.laws.youngest_are_behind.Goals as goal
+
+pub returns-clause-none : goal.returns-clause-none
+returns-clause-none c = none_is_after
 
 pub returns-clause-push : goal.returns-clause-push
 returns-clause-push c = push_keeps
