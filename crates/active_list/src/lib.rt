@@ -1,0 +1,12 @@
+//! The instructions of an out-of-order core that are in flight, in the order of the program.
+#![tactic(auto)]
+
+mod flight;
+mod laws;
+mod list;
+#[cfg(test)]
+mod tests;
+
+pub use flight::{Flight, Phase};
+pub use laws::youngest_are_behind;
+pub use list::ActiveList;
