@@ -1,5 +1,5 @@
 -- Takes in flight: what one more, the oldest's release and the youngest's undoing change.
-use Rattle.std.proofs.Common.{◌≡◌, ◌≢◌, ℕ, ◌+◌, ◌<◌, ◌≤◌, ◌==◌, All, Ok, Err, None, Some, replicate, if◌then◌else◌, List, [], ◌∷◌, ◌++◌, length, map, Option, get_or, set, slice_index, slice_set, Bool, true, false, eqb, cond, ◌⊎◌, inl, inr, ⊎_elim, sym, ap, ◌∙◌, subst, refl, arith, length-append, length-set, get_or-set_other, get_or-set_same}
+use Rattle.std.proofs.Common.{◌≡◌, ◌≢◌, ℕ, ◌+◌, ◌<◌, ◌≤◌, ◌==◌, All, Ok, Err, None, Some, replicate, if◌then◌else◌, List, [], ◌∷◌, ◌++◌, length, map, Option, get_or, set, cond, ◌⊎◌, inl, inr, ⊎_elim, sym, ap, ◌∙◌, subst, refl, arith, length-append, length-set, get_or-set_other, get_or-set_same}
 use Rattle.std.proofs.lemmas.Bool.{cases_eq, cases_lt, eq-eqb}
 use Rattle.std.proofs.lemmas.Bool.Decides.{nat_tests}
 use Rattle.std.proofs.lemmas.List.{map_push, length-map, length-replicate}
@@ -9,7 +9,7 @@ use Rattle.std.specs.List.{range_with_len}
 use Rattle.rsim_base.specs.declared.processor.Renamed.{Renamed}
 use Rattle.rsim_base.specs.declared.refusals.NoneFree.{NoneFree}
 use Rattle.sparc_meaning.specs.declared.arch.Arch.{Arch}
-use Rattle.rename.specs.Names.{NamesView, Takes, TakesOf, take_of, taken}
+use Rattle.rename.specs.Names.{NamesView, TakesOf, take_of, taken}
 use Rattle.rename.specs.Laws.{FirstIsRenaming, NumbersAreWithin, OperandsNameWriters, RegistersAreApart, ReleasedIsRenaming, RoomForEach, TakenIsRenaming, UndoneIsRenaming}
 use Rattle.rename.specs.Start.{first_names, registers_of}
 use Rattle.rename.specs.Renaming.{IsRenaming, OldsAreBefore, named, olds, times}

@@ -1,12 +1,11 @@
 -- What a core's registers keep when a register is taken, pushed or mapped.
-use Rattle.std.proofs.Common.{◌≡◌, ℕ, zero, suc, Option, ◌+◌, ◌-◌, ◌<◌, ◌≤◌, Ok, None, Some, All, List, [], ◌∷◌, ◌++◌, length, map, replicate, drop, get_or, set, slice_get, slice_index, slice_set, sym, ap, ◌∙◌, subst, refl, arith}
+use Rattle.std.proofs.Common.{◌≡◌, ℕ, zero, suc, Option, ◌+◌, ◌-◌, ◌<◌, ◌≤◌, Ok, None, Some, All, List, [], ◌∷◌, ◌++◌, length, map, replicate, drop, get_or, set, slice_get, slice_set, sym, ap, ◌∙◌, subst, refl, arith}
 use Rattle.std.specs.List.{range_with_len}
 use Rattle.std.proofs.lemmas.List.{length_push, map_push, map-set, drop-map, get_or-map}
-use Rattle.std.proofs.lemmas.List.Elements.{All-nil, All-set, All-push, All-cons, All-drop}
-use Rattle.std.proofs.lemmas.List.FromFn.{fill_by_all, map-range_with_len_more, length-map-range_with_len}
+use Rattle.std.proofs.lemmas.List.Elements.{All-nil, All-set, All-push, All-cons}
+use Rattle.std.proofs.lemmas.List.FromFn.{map-range_with_len_more, length-map-range_with_len}
 use Rattle.rsim_base.specs.declared.processor.ArchReg.{ArchReg}
 use Rattle.rsim_base.specs.declared.processor.PhysReg.{PhysReg}
-use Rattle.rsim_base.specs.declared.processor.Renamed.{Renamed}
 use Rattle.sparc_meaning.specs.declared.arch.Arch.{Arch}
 use Rattle.circular_buffer.specs.Buffer.{Buffer, buffer, keep_last}
 use Rattle.rename.specs.Inside.{AreInside, registers}

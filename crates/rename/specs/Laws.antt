@@ -1,9 +1,9 @@
 -- What holds after any takes, releases and undos.
-use Rattle.std.specs.Prelude.{◌≡◌, ◌≢◌, ℕ, ◌+◌, ◌<◌, ◌≤◌, ◌==◌, ◌∷◌, ◌++◌, List, [], length, All, if◌then◌else◌, slice_index, slice_set, Ok}
+use Rattle.std.specs.Prelude.{◌≡◌, ◌≢◌, ℕ, ◌+◌, ◌<◌, ◌==◌, ◌∷◌, ◌++◌, List, [], length, All, if◌then◌else◌, slice_index, slice_set, Ok}
 use Rattle.rsim_base.specs.declared.processor.Renamed.{Renamed}
 use Rattle.sparc_meaning.specs.declared.arch.Arch.{Arch}
 use Rattle.rename.specs.Names.{NamesView, Takes}
-use Rattle.rename.specs.Renaming.{IsRenaming, named, olds, times}
+use Rattle.rename.specs.Renaming.{IsRenaming}
 use Rattle.rename.specs.Start.{first_names}
 
 -- at first nothing is in flight, and register r is held by the register of the same number

@@ -1,5 +1,5 @@
 -- What a core's registers hold at first.
-use Rattle.std.specs.Prelude.{ℕ, ◌∷◌, ◌++◌, List, [], map, replicate, Option, None, Some}
+use Rattle.std.specs.Prelude.{ℕ, ◌∷◌, ◌++◌, List, [], map, replicate, None, Some}
 use Rattle.std.specs.List.{range_with_len}
 use Rattle.sparc_meaning.specs.declared.arch.Arch.{Arch}
 use Rattle.rename.specs.Names.{NamesView}

@@ -1,4 +1,4 @@
-use Rattle.std.proofs.Common.{ap, arith, length}
+use Rattle.std.proofs.Common.{arith}
 use Rattle.rename.proofs.Insides.{length-registers, registers_more}
 use Rattle.rename.proofs.map.registers_behind.Goals as goal
 
