@@ -1,4 +1,4 @@
--- What a core's registers keep when a register is taken, pushed or mapped.
+-- What a core's registers keep, and what clauses see of them, when a register is taken, pushed or mapped, and at first.
 use Rattle.std.proofs.Common.{◌≡◌, ℕ, zero, suc, Option, ◌+◌, ◌-◌, ◌<◌, ◌≤◌, Ok, None, Some, All, List, [], ◌∷◌, ◌++◌, length, map, replicate, drop, get_or, set, slice_get, slice_set, sym, ap, ◌∙◌, subst, refl, arith}
 use Rattle.std.specs.List.{range_with_len}
 use Rattle.std.proofs.lemmas.List.{length_push, map_push, map-set, drop-map, get_or-map}

@@ -1,6 +1,5 @@
 // The registers of a core, and which of them hold the architectural ones.
-ghost use Rattle.std.specs.Prelude.{◌≡◌, ◌∷◌, ◌++◌, ◌+◌, ◌<◌, ◌≤◌, [], IfOk, OnOk, length, None, Some, slice_index, slice_index_or, slice_set};
-ghost use Rattle.std.specs.Prelude.{map, replicate, vec_len};
+ghost use Rattle.std.specs.Prelude.{◌≡◌, ◌∷◌, ◌++◌, ◌+◌, ◌<◌, ◌≤◌, [], IfOk, OnOk, length, map, replicate, None, Some, slice_index, slice_index_or, slice_set, vec_len};
 ghost use Rattle.circular_buffer.specs.Buffer.{buffer};
 ghost use Rattle.rename.specs.Inside.{registers};
 ghost use Rattle.rename.specs.Names.{Takes};
@@ -10,6 +9,7 @@ use circular_buffer::HeapCircularBuffer;
 use rsim_base::{ArchReg, NoMemory, NoneFree, PhysReg, Renamed};
 use sparc_meaning::Arch;
 use std::alloc::{AllocError, Global};
+use std::array;
 use std::marker::Model;
 
 /// How many architectural registers there are: the globals, the windowed registers, the condition codes, and Y.
@@ -133,11 +133,7 @@ fn push(free: &mut HeapCircularBuffer<PhysReg>, r: PhysReg)
 fn first_registers() -> [PhysReg; ARCH_REGISTERS]
     ensures { result ≡ registers 0 138 }
 {
-    let mut current = [PhysReg(0); ARCH_REGISTERS];
-    for r in 0..ARCH_REGISTERS {
-        current[r] = PhysReg(r as u16);
-    }
-    current
+    array::from_fn(|r| PhysReg(r as u16))
 }
 
 // The registers behind those that hold architectural ones.
@@ -170,8 +166,5 @@ fn first_values(alloc: Global, extra: u16, image: &Arch) -> Result<Vec<Option<u6
 fn append(values: &mut Vec<Option<u64>>, written: &[u64]) -> Result<(), AllocError>
     ensures { OnOk result (values.new.items ≡ values.old.items ++ map Some written.now) }
 {
-    for value in written {
-        values.push(Some(*value))?;
-    }
-    Ok(())
+    values.extend(written.iter().copied().map(Some))
 }

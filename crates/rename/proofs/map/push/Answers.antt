@@ -1,3 +1,4 @@
+-- Where there is a place nothing is given up.
 use Rattle.rename.proofs.Insides.{keep_last_all}
 use Rattle.rename.proofs.map.push.Goals as goal
 

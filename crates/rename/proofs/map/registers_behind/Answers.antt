@@ -1,3 +1,4 @@
+-- One more register, for which there is a place.
 use Rattle.std.proofs.Common.{arith}
 use Rattle.rename.proofs.Insides.{length-registers, registers_more}
 use Rattle.rename.proofs.map.registers_behind.Goals as goal

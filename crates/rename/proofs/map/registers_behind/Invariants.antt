@@ -1,3 +1,4 @@
+-- The first k registers behind the architectural ones are there.
 use Rattle.std.proofs.Common.{◌≡◌}
 use Rattle.circular_buffer.specs.Buffer.{buffer}
 use Rattle.rename.specs.Inside.{registers}

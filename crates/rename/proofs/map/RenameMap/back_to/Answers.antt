@@ -1,3 +1,4 @@
+-- The old register is mapped, and the new one pushed.
 use Rattle.std.proofs.Common.{◌∷◌, ◌++◌, [], ◌∙◌, ap, arith, slice_set}
 use Rattle.std.proofs.lemmas.Grind.{common_steps}
 use Rattle.rename.specs.Names.{NamesView}

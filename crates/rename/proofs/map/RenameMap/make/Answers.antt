@@ -1,3 +1,4 @@
+-- The three parts are those of the first registers.
 use Rattle.std.proofs.Common.{rules}
 use Rattle.rename.proofs.Insides.{AreInside-first, view_of_first}
 use Rattle.rename.proofs.map.RenameMap.make.Goals as goal

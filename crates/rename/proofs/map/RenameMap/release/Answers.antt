@@ -1,3 +1,4 @@
+-- The old register is pushed.
 use Rattle.std.proofs.Common.{arith}
 use Rattle.std.proofs.lemmas.Grind.{common_steps}
 use Rattle.rename.proofs.Insides.{AreInside-push}

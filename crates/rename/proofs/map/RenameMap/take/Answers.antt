@@ -1,3 +1,4 @@
+-- The front of the free registers is taken.
 use Rattle.std.proofs.Common.{rules}
 use Rattle.rename.proofs.Insides.{take_of_front}
 use Rattle.rename.proofs.map.RenameMap.take.Goals as goal
