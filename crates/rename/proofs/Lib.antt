@@ -1,0 +1,3 @@
+pub mod InFlight
+pub mod Insides
+pub mod Times

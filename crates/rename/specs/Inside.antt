@@ -1,0 +1,17 @@
+-- What a core's registers keep: each number that is held names a register.
+use Rattle.std.specs.Prelude.{◌≡◌, ℕ, ◌+◌, ◌<◌, ◌≤◌, ◌^◌, List, All, length, map}
+use Rattle.std.specs.List.{range_with_len}
+use Rattle.rsim_base.specs.declared.processor.PhysReg.{PhysReg}
+use Rattle.circular_buffer.specs.Buffer.{Buffer}
+
+-- the n registers from the first one on
+abbrev pub registers : ℕ → ℕ → List PhysReg
+registers first n = map (λ r. record { 0 = r }) (range_with_len first n)
+
+-- the current and the free registers of n, 138 of which are not free
+pub record AreInside (current : List PhysReg) (free : Buffer PhysReg) (n : ℕ) : Type 0 where
+  pub few : n ≤ 2 ^ 16
+  pub room : free.capacity + 138 ≡ n
+  pub within : length free.items ≤ free.capacity
+  pub current_below : All (λ r. r.0 < n) current
+  pub free_below : All (λ r. r.0 < n) free.items
