@@ -1,5 +1,5 @@
 -- What is guessed of where a program goes on, and what is learnt.
-use Rattle.std.specs.Prelude.{◌≡◌, ℕ, ℤ, pos, int_lt, ◌+◌, ◌-◌, ◌/◌, ◌%◌, ◌^◌, ◌==◌, nat_lt, nat_le, ◌&&◌, ◌||◌, min, Bool, true, false, if◌then◌else◌, List, [], ◌∷◌, ◌++◌, length, take, filter, replicate, slice_get, slice_index, slice_set, Option, None, Some}
+use Rattle.std.specs.Prelude.{ℕ, pos, int_lt, ◌+◌, ◌-◌, ◌/◌, ◌%◌, ◌^◌, ◌==◌, nat_lt, nat_le, ◌&&◌, ◌||◌, min, Bool, true, false, if◌then◌else◌, List, [], ◌∷◌, ◌++◌, length, take, filter, replicate, slice_get, slice_index, slice_set, Option, None, Some}
 use Rattle.circular_buffer.specs.Buffer.{keep_last}
 use Rattle.machine_config.specs.declared.config.Config.{Config}
 use Rattle.machine_config.specs.declared.config.PredictorKind.{PredictorKind}

@@ -8,9 +8,10 @@ use std::marker::Model;
 
 // The most that a counter counts to, and the least at which a branch is guessed taken.
 const MAX: u8 = 3;
+
 const TAKEN: u8 = 2;
 
-/// Counters from 0 to 3, each of the branches whose place it stands at: instructions that lie so many apart share one.
+/// Counters from 0 to 3. Branches that lie as many words apart as there are counters share one.
 #[derive(Drop)]
 pub(crate) struct Counters {
     counts: Vec<u8>,
@@ -52,7 +53,11 @@ impl Counters {
     {
         let place = self.place_of(pc);
         let count = &mut self.counts[place];
-        *count = if taken { MAX.min(*count + 1) } else { count.saturating_sub(1) };
+        *count = if taken {
+            MAX.min(*count + 1)
+        } else {
+            count.saturating_sub(1)
+        };
     }
 
     // The place of the counter of the branch at `pc`.

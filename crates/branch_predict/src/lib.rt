@@ -5,5 +5,7 @@
 mod counters;
 mod predictor;
 mod return_stack;
+#[cfg(test)]
+mod tests;
 
 pub use predictor::{Guess, Predictor};

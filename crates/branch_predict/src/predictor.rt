@@ -11,12 +11,16 @@ use sparc_decode::{Instr, Op};
 use std::alloc::Global;
 use std::marker::Model;
 
-// The registers in which return addresses lie: of the caller's window, and of the window that SAVE made.
+// Registers of the window: one that holds nothing, and those where a return address lies before a SAVE and after it.
+const G0: u8 = 0;
+
 const O7: u8 = 15;
+
 const I7: u8 = 31;
 
 // The conditions of a branch on the condition codes that goes always, and of one that never goes.
 const ALWAYS: u8 = 8;
+
 const NEVER: u8 = 0;
 
 /// Where the program is guessed to go on after an instruction.
@@ -47,11 +51,11 @@ impl Model for Predictor {
     ghost Value = { PredictorView };
 
     ghost view = { λ p. record {
-        kind = kind_of p.counters;
-        counters = counts_of p.counters;
-        stack = p.returns.stack;
-        places = p.returns.places;
-        pushes = p.returns.pushes
+      kind = kind_of p.counters;
+      counters = counts_of p.counters;
+      stack = p.returns.stack;
+      places = p.returns.places;
+      pushes = p.returns.pushes;
     } };
 }
 
@@ -149,7 +153,7 @@ impl Predictor {
                 self.returns.push(pc);
                 Guess::Unknown
             }
-            (0, O7 | I7) => self.guess_return(),
+            (G0, O7 | I7) => self.guess_return(),
             _ => Guess::Unknown,
         }
     }

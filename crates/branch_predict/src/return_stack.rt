@@ -44,7 +44,9 @@ impl ReturnStack {
     pub(crate) fn make(alloc: Global, places: u32) -> Result<ReturnStack, NoMemory>
         ensures { IfOk result (λ r. r ≡ record { stack = []; places = places; pushes = 0 }) }
     {
-        let stack = HeapCircularBuffer::with_capacity(alloc, places as usize).map_err(|_| NoMemory)?;
+        let stack = HeapCircularBuffer::with_capacity(alloc, places as usize).map_err(
+            |_| NoMemory,
+        )?;
         Ok(ReturnStack { stack, pushes: 0 })
     }
 
@@ -52,8 +54,8 @@ impl ReturnStack {
     pub(crate) fn push(&mut self, pc: u64)
         requires { self.old.pushes < 2 ^ 64 - 1 }
         ensures { self.new ≡ record self.old {
-            stack = keep_last self.old.places (self.old.stack ++ record { number = self.old.pushes; address = (pc + 8) % 2 ^ 64 } ∷ []);
-            pushes = self.old.pushes + 1
+          stack = keep_last self.old.places (self.old.stack ++ record { number = self.old.pushes; address = (pc + 8) % 2 ^ 64 } ∷ []);
+          pushes = self.old.pushes + 1;
         } }
     {
         self.stack.push_back(Pushed {

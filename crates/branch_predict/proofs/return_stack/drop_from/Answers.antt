@@ -1,5 +1,5 @@
 -- While the youngest is not older than the mark it goes; then all are older.
-use Rattle.std.proofs.Common.{◌≡◌, List, refl, sym, ap, ◌∙◌, filter, nat_lt, true, false}
+use Rattle.std.proofs.Common.{◌≡◌, refl, sym, ap, ◌∙◌, filter, nat_lt, true, false}
 use Rattle.std.proofs.lemmas.List.Sorted.{IsNonDecreasingBy-take}
 use Rattle.circular_buffer.specs.Buffer.{Buffer, last_item}
 use Rattle.branch_predict.specs.declared.return_stack.Pushed.{Pushed}
