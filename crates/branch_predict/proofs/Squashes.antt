@@ -1,4 +1,4 @@
--- What a squash leaves of a stack whose numbers rise: what goes stands at the end.
+-- What a squash leaves of a stack along which numbers rise: what goes stands at the end.
 use Rattle.std.proofs.Common.{◌≡◌, ℕ, zero, suc, ◌+◌, ◌-◌, ◌<◌, ◌≤◌, Bool, true, false, List, [], ◌∷◌, ◌++◌, length, get_or, take, filter, Option, Some, None, nat_lt, refl, sym, ap, subst, ◌∙◌, arith}
 use Rattle.std.specs.List.{All, slice_get}
 use Rattle.std.specs.List.Sorted.{IsNonDecreasingBy}
@@ -49,6 +49,7 @@ filter-old mark xs (Some p) is old rising =
     let below : (get_or xs k d).number ≤ p.number = subst (λ (q : Pushed). (get_or xs k d).number ≤ q.number) e (rising k (length xs - 1) d (omega arith) (omega arith)) in
     grind (arith, nat_tests))
 
+-- what stays of a numbered stack is one
 pub AreNumbered-filter : (p : Pushed → Bool) (xs : List Pushed) (n : ℕ) → AreNumbered xs n → AreNumbered (filter p xs) n
 AreNumbered-filter p xs n h = record {
   rising = IsNonDecreasingBy-filter (λ (q : Pushed). q.number) p xs h.rising;

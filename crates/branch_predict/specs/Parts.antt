@@ -1,4 +1,4 @@
--- What a predictor's parts say: its counters, and its stack of return addresses.
+-- The parts of a predictor: its counters, and its stack of return addresses.
 use Rattle.std.specs.Prelude.{ℕ, ◌<◌, Bool, false, nat_le, List, [], Option, Some, None, All, unwrap_or}
 use Rattle.std.specs.List.Sorted.{IsNonDecreasingBy}
 use Rattle.machine_config.specs.declared.config.PredictorKind.{PredictorKind}
@@ -12,7 +12,7 @@ pub record StackView : Type 0 where
   -- how many addresses have been pushed so far
   pub pushes : ℕ
 
--- numbers rise along the stack, and each is that of a push
+-- numbers do not fall along the stack, and each is that of a push
 pub record AreNumbered (stack : List Pushed) (pushes : ℕ) : Type 0 where
   pub rising : IsNonDecreasingBy (λ (p : Pushed). p.number) stack
   pub made : All (λ (p : Pushed). p.number < pushes) stack

@@ -11,14 +11,14 @@ use sparc_decode::{Instr, Op};
 use std::alloc::Global;
 use std::marker::Model;
 
-// Registers of the window: one that holds nothing, and those where a return address lies before a SAVE and after it.
+// The register that is always 0, and those where a return address lies before a SAVE and after it (SPARC V9, H.1).
 const G0: u8 = 0;
 
 const O7: u8 = 15;
 
 const I7: u8 = 31;
 
-// The conditions of a branch on the condition codes that goes always, and of one that never goes.
+// The conditions of a branch on the condition codes that always goes, and of one that never does (SPARC V9, A.6, A.7).
 const ALWAYS: u8 = 8;
 
 const NEVER: u8 = 0;
@@ -96,7 +96,8 @@ impl Predictor {
         }
     }
 
-    /// Learns which way the conditional branch at `pc` went: its counter goes up or down by one, within 0 to 3.
+    /// Learns which way the conditional branch at `pc` went: its counter goes up or down by one, within 0 to 3. Where
+    /// branches are guessed by the instruction alone, nothing changes.
     pub fn learn(&mut self, pc: u64, taken: bool)
         ensures { self.new ≡ learned pc taken self.old }
     {
@@ -130,7 +131,7 @@ impl Predictor {
         }
     }
 
-    // The same of a branch on the condition codes, of which two conditions depend on no code.
+    // The same of a branch on the condition codes: under two conditions the codes do not matter.
     fn goes_on_codes(&self, pc: u64, i: &Instr) -> bool
         ensures { result ≡ on_codes pc i.now self.now }
     {

@@ -9,7 +9,7 @@ use rsim_base::NoMemory;
 use std::alloc::Global;
 use std::marker::Model;
 
-// A call and the instruction in its delay slot, in bytes: a call returns behind them.
+// The bytes of a call and the instruction in its delay slot: a call returns behind them.
 const CALL_BYTES: u64 = 8;
 
 /// A return address, and the number of its push, counted from 0.
@@ -19,7 +19,7 @@ pub(crate) struct Pushed {
     pub(crate) address: u64,
 }
 
-/// Return addresses in so many places, of which a push to a full stack drops the oldest.
+/// Return addresses in a fixed number of places. A push on a full stack drops the oldest.
 #[derive(Drop)]
 pub(crate) struct ReturnStack {
     stack: HeapCircularBuffer<Pushed>,
@@ -65,7 +65,7 @@ impl ReturnStack {
         self.pushes += 1;
     }
 
-    /// Takes the youngest address.
+    /// Takes the youngest address, if there is one.
     pub(crate) fn pop(&mut self) -> Option<u64>
         ensures value { result ≡ option_map (λ p. p.address) (last_item self.old.stack) }
         ensures after { self.new ≡ record self.old { stack = take (length self.old.stack - 1) self.old.stack } }
@@ -81,7 +81,7 @@ impl ReturnStack {
         self.pushes
     }
 
-    /// Drops the addresses of those pushes whose number is at least `mark`.
+    /// Drops the addresses of the pushes whose numbers are at least `mark`.
     pub(crate) fn back_to(&mut self, mark: u64)
         ensures { self.new ≡ record self.old { stack = filter (λ p. nat_lt p.number mark) self.old.stack } }
     {

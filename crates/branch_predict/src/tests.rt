@@ -262,7 +262,7 @@ struct Expected {
 }
 
 // The calls of the script.
-#[derive(Clone, Copy, Debug, PartialEq, Eq)]
+#[derive(Clone, Copy)]
 enum Call {
     Guess(Instr),
     Learn(bool),
@@ -355,7 +355,7 @@ fn a_script_answers_as_plain_lists_do(rt: HostRuntime) -> Result<(), Fail> {
         assert_eq!(rt;
             called(&rt, &mut predictor, pc, call),
             wanted,
-            "step {step}: {call:?}"
+            "step {step}"
         );
         assert_eq!(rt; predictor.mark(), all.pushes, "step {step}");
     }

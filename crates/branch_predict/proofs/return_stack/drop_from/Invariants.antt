@@ -1,3 +1,4 @@
+-- What went would not have stayed anyway.
 use Rattle.std.proofs.Common.{◌≡◌, filter, nat_lt, length}
 use Rattle.std.specs.List.Sorted.{IsNonDecreasingBy}
 use Rattle.branch_predict.specs.declared.return_stack.Pushed.{Pushed}
