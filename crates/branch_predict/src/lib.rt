@@ -1,0 +1,11 @@
+//! Guesses of where the program goes on: directions by the instruction or by two-bit counters, and return addresses by a
+//! stack.
+#![tactic(auto)]
+
+mod counters;
+mod predictor;
+mod return_stack;
+#[cfg(test)]
+mod tests;
+
+pub use predictor::{Guess, Predictor};
