@@ -1,5 +1,5 @@
 // The unit that fetches.
-ghost use Rattle.std.specs.Prelude.{◌≡◌, ◌-◌, ◌^◌, ◌<◌, None, Some, IfOk, IfSome};
+ghost use Rattle.std.specs.Prelude.{◌≡◌, ◌-◌, ◌^◌, ◌<◌, Some, IfSome, IsOkAnd};
 ghost use Rattle.machine_config.specs.Allowed.{IsAllowed};
 ghost use Rattle.sparc_meaning.specs.Fetched.{AreWindows, IsFetched};
 ghost use Rattle.fetch_unit.specs.Path.{FetchesAt, IsSpot, IsSpotAt, fetching, first_spot, follow, leading, meant_by};
@@ -52,7 +52,7 @@ impl FetchUnit {
         p: Node,
     ) -> Result<FetchUnit, NoMemory>
         requires { IsAllowed config.now }
-        ensures { IfOk result (λ f. f ≡ Some (first_spot image.now)) }
+        ensures { IsOkAnd result (λ f. f ≡ Some (first_spot image.now)) }
     {
         Ok(FetchUnit {
             next: Some(Spot {
