@@ -1,0 +1,2 @@
+mod Guessing
+mod Spots
