@@ -1,0 +1,23 @@
+-- What is forwarded: the youngest of the earlier accesses decides.
+use Rattle.std.proofs.Common.{◌≡◌, ℕ, suc, ◌-◌, ◌<◌, Bool, cond, List, take, find, reverse, Option, Some, option_and_then, slice_get, ap, ◌∙◌, arith}
+use Rattle.rsim_base.specs.declared.memory.Addr.{Addr}
+use Rattle.memory_queue.specs.Queues.{forwarded, forwarded_to, given_by, meets}
+use Rattle.memory_queue.specs.declared.queued.Queued.{Queued}
+use Rattle.memory_queue.proofs.Walking.{back-at}
+
+-- looking back over the first n, the last of them comes first
+pub find-back : (p : Queued → Bool) (xs : List Queued) (n : ℕ) (x : Queued) (b : Bool) → 0 < n → slice_get xs (n - 1) ≡ Some x → p x ≡ b →
+    find p (reverse (take n xs)) ≡ cond b (Some x) (find p (reverse (take (n - 1) xs)))
+find-back p xs n x b some at is =
+    let next : n ≡ suc (n - 1) = omega (arith, some) in
+    ap (λ j. find p (reverse (take j xs))) next
+    ∙ (ap (find p) (back-at xs (n - 1) x at)
+    ∙ ap (λ (b : Bool). cond b (Some x) (find p (reverse (take (n - 1) xs)))) is)
+
+-- the load at a place is given what the one that was found gives
+pub forwarded-at : (xs : List Queued) (k : ℕ) (load : Queued) (a : Addr) (found : Option Queued) → slice_get xs k ≡ Some load → load.addr ≡ Some a →
+    find (meets a load.size) (reverse (take k xs)) ≡ found → forwarded_to k xs ≡ given_by a load.size found
+forwarded-at xs k load a found at addr is =
+    ap (option_and_then (forwarded (take k xs))) at
+    ∙ (ap (option_and_then (λ (b : Addr). given_by b load.size (find (meets b load.size) (reverse (take k xs))))) addr
+    ∙ ap (given_by a load.size) is)

@@ -1,0 +1,7 @@
+mod Binding
+mod Cutting
+mod Forwarding
+mod Parts
+mod Rising
+mod Sizes
+mod Walking
