@@ -1,0 +1,7 @@
+pub mod Held
+pub mod Needs
+pub mod Queues
+pub mod Tables
+pub mod Units
+pub mod Views
+pub mod Words
