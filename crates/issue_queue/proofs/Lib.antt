@@ -6,3 +6,4 @@ pub mod Wakes
 pub mod Adds
 pub mod Empty
 pub mod Selects
+pub mod Numbers

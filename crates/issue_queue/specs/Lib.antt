@@ -1,5 +1,6 @@
 pub mod Held
 pub mod Needs
+pub mod Numbered
 pub mod Queues
 pub mod Tables
 pub mod Units
