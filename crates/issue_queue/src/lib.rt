@@ -1,0 +1,13 @@
+//! The instructions that wait for operands and units, and those that units have.
+#![tactic(auto)]
+
+mod needs;
+mod queue;
+mod table;
+#[cfg(test)]
+mod tests;
+mod units;
+mod words;
+
+pub use queue::IssueQueue;
+pub use units::Unit;

@@ -1,0 +1,4 @@
+pub mod Bits
+pub mod Ages
+pub mod Turns
+pub mod Counts
