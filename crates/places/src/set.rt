@@ -18,6 +18,7 @@ impl Places {
         Places(0)
     }
 
+    /// Whether the place is in the set.
     pub fn has(self, place: u8) -> bool
         requires { place < 128 }
         ensures { result ≡ has self place }
@@ -25,6 +26,7 @@ impl Places {
         self.0 >> place & 1 == 1
     }
 
+    /// Whether no place is in the set.
     pub fn is_empty(self) -> bool
         ensures none { result ≡ true → (j : ℕ) → has self j ≡ false }
         ensures some { ((j : ℕ) → has self j ≡ false) → result ≡ true }
@@ -32,6 +34,7 @@ impl Places {
         self.0 == 0
     }
 
+    /// The set and this place.
     pub fn with(self, place: u8) -> Places
         requires { place < 128 }
         ensures { (j : ℕ) → has result j ≡ ((j == place) || has self j) }
@@ -39,6 +42,7 @@ impl Places {
         Places(self.0 | 1u128 << place)
     }
 
+    /// The set but for this place.
     pub fn without(self, place: u8) -> Places
         requires { place < 128 }
         ensures has { (j : ℕ) → has result j ≡ (not (j == place) && has self j) }
@@ -47,12 +51,14 @@ impl Places {
         Places(self.0 & !(1u128 << place))
     }
 
+    /// Those that are in both sets.
     pub fn and(self, other: Places) -> Places
         ensures { (j : ℕ) → has result j ≡ (has self j && has other j) }
     {
         Places(self.0 & other.0)
     }
 
+    /// Those that are in one of the sets, or in both.
     pub fn or(self, other: Places) -> Places
         ensures { (j : ℕ) → has result j ≡ (has self j || has other j) }
     {
