@@ -276,6 +276,43 @@ fn plain_forward(list: &[Known], k: u32) -> Option<u64> {
     None
 }
 
+// An access at an address, of which nothing else is of interest.
+fn access_of(kind: Kind, size: Size, a: u64, value: Option<u64>) -> Known {
+    Known {
+        seq: 0,
+        kind,
+        size,
+        fences: NO_FENCES,
+        addr: Some(Addr(a)),
+        value,
+        placed: false,
+        bound: false,
+    }
+}
+
+#[test]
+fn every_pair_of_sizes_shares_its_bytes(rt: HostRuntime) -> Result<(), Fail> {
+    let (base, value) = (0x1008, 0x0102_0304_0506_0708);
+    for has in SIZES {
+        for wants in SIZES {
+            for a in 0x1000..0x1011u64 {
+                let joining = [(Store, has, NO_FENCES), (Load, wants, NO_FENCES)];
+                let mut queue = filled(rt.alloc(), RC, &joining)?;
+                queue.address(0, Addr(base));
+                queue.store_value(0, value);
+                queue.address(1, Addr(a));
+                let list = [
+                    access_of(Store, has, base, Some(value)),
+                    access_of(Load, wants, a, None),
+                ];
+                let wanted = plain_forward(&list, 1);
+                assert_eq!(rt; queue.forward(1), wanted, "{has:?} {wants:?} {a:x}");
+            }
+        }
+    }
+    Ok(())
+}
+
 fn may_bind(list: &[Known], k: usize, model: Model, speculates: bool) -> bool {
     let Some(load) = list.get(k) else {
         return false;
