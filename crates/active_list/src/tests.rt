@@ -9,7 +9,22 @@ use std::test::Fail;
 
 const SIZE: u32 = 3;
 
-// ADD %g1, %g2, %g3, as the core makes it: the number tells it from others.
+// ADD %g1, %g2, %g3
+const ADD: Instr = Instr {
+    src2: Src2::Reg(2),
+    disp: 0,
+    trap: 0,
+    op: Op::Add,
+    rd: 3,
+    rs1: 1,
+    cond: 0,
+    mask: 0,
+    extended: false,
+    annul: false,
+    hint: false,
+};
+
+// That addition, as the core makes it: the number tells it from others.
 fn flight(seq: u64) -> Flight {
     let written = Renamed {
         reg: ArchReg(3),
@@ -26,19 +41,7 @@ fn flight(seq: u64) -> Flight {
             cansave: 5,
             canrestore: 1,
         },
-        instr: Instr {
-            src2: Src2::Reg(2),
-            disp: 0,
-            trap: 0,
-            op: Op::Add,
-            rd: 3,
-            rs1: 1,
-            cond: 0,
-            mask: 0,
-            extended: false,
-            annul: false,
-            hint: false,
-        },
+        instr: ADD,
         guess: Some(Pair {
             pc: 0x1004,
             npc: 0x1008,
