@@ -4,8 +4,6 @@
 mod flight;
 mod laws;
 mod list;
-#[cfg(test)]
-mod tests;
 
 pub use flight::{Flight, Phase};
 pub use laws::youngest_are_behind;

@@ -5,7 +5,5 @@
 mod counters;
 mod predictor;
 mod return_stack;
-#[cfg(test)]
-mod tests;
 
 pub use predictor::{Guess, Predictor};

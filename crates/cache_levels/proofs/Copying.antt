@@ -1,38 +1,24 @@
 -- The copies of lines after each call.
-use Rattle.std.proofs.Common.{◌≡◌, ℕ, ◌+◌, ◌-◌, ◌<◌, Bool, true, false, cond, List, [], ◌∷◌, ◌++◌, zero, suc, length, get_or, set, take, drop, Option, Some, None, option_map, IsTrue, is_some, arith, refl, sym, ap, ◌∙◌, ⊎_elim}
-use Rattle.std.specs.List.{slice_get}
-use Rattle.std.specs.Option.{option_map_or, option_and_then}
+use Rattle.std.proofs.Common.{◌≡◌, ℕ, ◌+◌, ◌-◌, ◌<◌, Bool, true, false, cond, List, ◌++◌, length, get_or, set, take, drop, Option, Some, None, option_map, IsTrue, is_some, arith, refl, sym, ap, ◌∙◌, ⊎_elim}
+use Rattle.std.specs.Option.{option_map_or}
 use Rattle.std.proofs.lemmas.Bool.{cases_eq, eq-eqb, ne_eqb}
 use Rattle.std.proofs.lemmas.List.{length-take-le, get_or_append_left, get_or-take, get_or-drop, get_or-append_right}
 use Rattle.std.proofs.lemmas.List.FromFn.{length-map-range_with_len, get_or-map-range_with_len}
 use Rattle.std.proofs.lemmas.Option.{slice_get-get_or}
+use Rattle.list_facts.specs.Places.{slice_get-set_same, slice_get-set_other}
 use Rattle.rsim_base.specs.Bytes.{count_of, byte_of}
 use Rattle.cache_sets.specs.Ways.{Way}
 use Rattle.cache_sets.specs.Apart.{SoundIsApart}
-use Rattle.cache_sets.specs.Caches.{slot_of, reserved_slot, room_for, touched, with_reserved, filled}
+use Rattle.cache_sets.specs.Caches.{slot_of, reserved_slot, room_for, touched, filled}
 use Rattle.cache_sets.specs.Lookups.{TouchLooksUp, ReserveLooksUp, HoldLooksUp, FillLooksUp, is_victim, with_slot}
 use Rattle.cache_levels.specs.declared.levels.LineCopy.{LineCopy}
 use Rattle.cache_levels.specs.Bytes.{cuts}
 use Rattle.cache_levels.specs.Laws.{with_copy, FillCopies, ChangeCopies, RoomCopies, OthersStay, WriteReadsBack}
-use Rattle.cache_levels.specs.Levels.{LevelsView, copy_of, copy_at, no_copy, held_way, without_victim, filled_line, with_line}
+use Rattle.cache_levels.specs.Levels.{LevelsView, copy_of, copy_at, no_copy, held_way, filled_line}
+use Rattle.cache_levels.specs.Slots.{copy_in, fill_slot, room_at}
 use Rattle.cache_levels.specs.Sound.{AreSound}
 
 -- ---- the copy at a slot
-
-slice_get-set_same : {X : Type 0} (xs : List X) (i : ℕ) (x : X) → i < length xs → slice_get (set xs i x) i ≡ Some x
-slice_get-set_same [] i x h = absurd (omega arith)
-slice_get-set_same (y ∷ ys) zero x h = refl
-slice_get-set_same (y ∷ ys) (suc i) x h = slice_get-set_same ys i x (omega arith)
-
-slice_get-set_other : {X : Type 0} (xs : List X) (i j : ℕ) (x : X) → (j ≡ i → ⊥) → slice_get (set xs i x) j ≡ slice_get xs j
-slice_get-set_other [] i j x ne = refl
-slice_get-set_other (y ∷ ys) zero zero x ne = absurd (ne refl)
-slice_get-set_other (y ∷ ys) zero (suc j) x ne = refl
-slice_get-set_other (y ∷ ys) (suc i) zero x ne = refl
-slice_get-set_other (y ∷ ys) (suc i) (suc j) x ne = slice_get-set_other ys i j x (λ e. ne (ap suc e))
-
-abbrev pub copy_in : List LineCopy → Option ℕ → Option LineCopy
-copy_in copies slot = option_and_then (slice_get copies) slot
 
 -- the choice between a line and the others
 chosen : (line l : ℕ) (copy given : Option LineCopy) (copies : ℕ → Option LineCopy) → (l ≡ line → given ≡ copy) → ((l ≡ line → ⊥) → given ≡ copies l) → given ≡ with_copy line copy copies l
@@ -52,21 +38,6 @@ copy_other copies slot copy None ne = refl
 copy_other copies slot copy (Some j) ne = slice_get-set_other copies slot j copy (ne j refl)
 
 -- ---- the calls
-
--- the levels after a fill, by the slot that is reserved, and after a way was reserved, by the way
-abbrev fill_slot : ℕ → Bool → List ℕ → LevelsView → Option ℕ → LevelsView
-fill_slot line is_owned bytes levels slot =
-    option_map_or
-    (λ s. record levels {
-      first = with_line line levels.first;
-      second = filled s line levels.second;
-      copies = set levels.copies s (record { owned = is_owned; bytes = bytes });
-    })
-    slot levels
-
-abbrev room_at : ℕ → LevelsView → Option Way → LevelsView
-room_at line levels room =
-    option_map_or (λ way. record levels { first = without_victim way.line levels.first; second = with_reserved line levels.second }) room levels
 
 fill_at : (line slot l : ℕ) (copy : LineCopy) (levels : LevelsView) → SoundIsApart → FillLooksUp → AreSound levels → reserved_slot line levels.second ≡ Some slot →
     copy_in (set levels.copies slot copy) (slot_of l (filled slot line levels.second)) ≡ with_copy line (Some copy) (λ k. copy_of k levels) l

@@ -4,6 +4,7 @@ use Rattle.std.specs.Option.{option_map_or}
 use Rattle.std.proofs.lemmas.Bool.{cases_eq, eq-eqb, ne_eqb}
 use Rattle.std.proofs.lemmas.List.{length-set}
 use Rattle.std.proofs.lemmas.List.Elements.{All-set}
+use Rattle.rsim_base.specs.Limits.{line_room}
 use Rattle.rsim_base.specs.declared.memory.Line.{Line}
 use Rattle.cache_sets.specs.Ways.{Way, names, touched_in, fill_in, reserve_in}
 use Rattle.cache_sets.specs.Caches.{CacheView, slot_of, reserved_slot, room_for, slot_count, told, in_set, touched, filled, with_reserved, home_of, set_at}
@@ -50,7 +51,7 @@ AreSound-brought old line first second sound there sound_first unreserved others
 
 -- ---- filled
 
-pub AreSound-filled : (old : LevelsView) (line slot : ℕ) (copy : LineCopy) (first second : CacheView) → AreSound old → length copy.bytes ≡ 128 →
+pub AreSound-filled : (old : LevelsView) (line slot : ℕ) (copy : LineCopy) (first second : CacheView) → AreSound old → length copy.bytes ≡ line_room →
     IsSound first → ((l : ℕ) → reserved_slot l first ≡ None) → ((l : ℕ) → IsThere (slot_of l first) → (l ≡ line) ⊎ IsTrue (near l old)) →
     IsSound second → second ≡ filled slot line old.second → LooksUpFilled slot line old.second second →
     AreSound (record { first = first; second = second; copies = set old.copies slot copy; line_bytes = old.line_bytes })
@@ -67,7 +68,7 @@ AreSound-filled old line slot copy first second sound long sound_first unreserve
       (cases_eq l line));
   unreserved = unreserved;
   copies = length-set old.copies slot copy ∙ (sound.copies ∙ sym (ap slot_count fills ∙ slot_count-in_set (home_of line old.second) (fill_in slot line) old.second));
-  bytes = All-set (λ (c : LineCopy). length c.bytes ≡ 128) old.copies slot copy long sound.bytes;
+  bytes = All-set (λ (c : LineCopy). length c.bytes ≡ line_room) old.copies slot copy long sound.bytes;
   line_bytes = sound.line_bytes;
 }
 

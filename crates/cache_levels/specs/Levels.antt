@@ -1,6 +1,7 @@
 -- Two levels of caches. The first has what is near, by tags alone. The second has what is held, and its bytes.
 use Rattle.std.specs.Prelude.{ℕ, ◌*◌, ◌/◌, ◌%◌, Bool, false, List, replicate, slice_get, slice_index_or, slice_set, Option, Some, None, option_map, option_and_then, is_some}
 use Rattle.std.specs.Option.{option_map_or}
+use Rattle.rsim_base.specs.Limits.{line_room}
 use Rattle.rsim_base.specs.declared.memory.Size.{Size}
 use Rattle.machine_config.specs.declared.config.Config.{Config}
 use Rattle.cache_sets.specs.Caches.{CacheView, slot_of, reserved_slot, room_for, told, touched, with_reserved, with_held, filled, dropped, empty_cache}
@@ -48,7 +49,7 @@ with_line line cache = option_map_or (λ slot. touched slot cache) (slot_of line
 -- ---- copies
 
 abbrev pub no_bytes : List ℕ
-no_bytes = replicate 128 0
+no_bytes = replicate line_room 0
 
 abbrev pub no_copy : LineCopy
 no_copy = record { owned = false; bytes = no_bytes }

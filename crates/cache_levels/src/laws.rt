@@ -2,7 +2,7 @@
 
 ghost use Rattle.cache_levels.specs.Laws.{FillCopies, ChangeCopies, LoseCopies, RoomCopies, OthersStay, WriteReadsBack};
 
-use cache_sets::{lines_are_apart, look_ups_follow};
+use cache_sets::laws;
 
 /// What each call does to the copy of each line. The copy of a line changes only where the line is filled, shared,
 /// written or lost, or leaves for another.
@@ -13,8 +13,8 @@ pub fn copies_follow()
     ensures room { RoomCopies }
     ensures others { OthersStay }
 {
-    lines_are_apart();
-    look_ups_follow();
+    laws::lines_are_apart();
+    laws::look_ups_follow();
 }
 
 /// A byte that is written into a line reads back, and no other byte changes.

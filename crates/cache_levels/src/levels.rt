@@ -1,5 +1,5 @@
 // The two levels of a node.
-ghost use Rattle.std.specs.Prelude.{◌≡◌, ◌≢◌, ◌/◌, ◌%◌, ◌<◌, IfOk, IsTrue, None, false, option_map, option_copied, replicate, vec_len, ⊤};
+ghost use Rattle.std.specs.Prelude.{◌≡◌, ◌≢◌, ◌/◌, ◌%◌, ◌<◌, IfOk, IsTrue, None, false, is_some, option_map, option_copied, replicate, vec_len, ⊤};
 ghost use Rattle.rsim_base.specs.Bytes.{count_of};
 ghost use Rattle.machine_config.specs.Allowed.{IsAllowed};
 ghost use Rattle.cache_sets.specs.Caches.{reserved_slot};
@@ -9,27 +9,27 @@ ghost use Rattle.cache_levels.specs.Sound.{AreSound};
 use crate::{bytes, tags};
 use cache_sets::{CacheSets, Reserved};
 use machine_config::Config;
-use rsim_base::{Addr, Line, NoMemory, Size, line_of};
+use rsim_base::{Addr, LINE_ROOM, Line, NoMemory, Size, line_of};
 use std::alloc::{AllocError, Global};
 use std::marker::Model;
 
 /// The line that leaves for another, with its bytes and whether it was owned. Where none leaves there is no line,
 /// and the bytes are 0.
-#[derive(Clone, Copy, Debug, PartialEq, Eq)]
+#[derive(Clone, Copy, PartialEq, Eq)]
 pub struct Evicted {
     /// The line that leaves.
     pub line: Option<Line>,
     /// Whether it was owned.
     pub owned: bool,
     /// Its bytes, of which the first count, as many as a line has.
-    pub bytes: [u8; 128],
+    pub bytes: [u8; LINE_ROOM],
 }
 
 /// A copy of a line, of which the first bytes count, as many as a line has.
 #[derive(Copy)]
 pub struct LineCopy {
     pub owned: bool,
-    pub bytes: [u8; 128],
+    pub bytes: [u8; LINE_ROOM],
 }
 
 impl Clone for LineCopy {
@@ -44,23 +44,23 @@ impl Clone for LineCopy {
 
 const NO_COPY: LineCopy = LineCopy {
     owned: false,
-    bytes: [0; 128],
+    bytes: [0; LINE_ROOM],
 };
 
 const NOTHING_EVICTED: Evicted = Evicted {
     line: None,
     owned: false,
-    bytes: [0; 128],
+    bytes: [0; LINE_ROOM],
 };
 
 /// The two levels of caches of a node. What is near is held.
 #[derive(Drop)]
 pub struct Levels {
     first: CacheSets,
-    pub(crate) second: CacheSets,
+    second: CacheSets,
     // By slot of the second level.
     copies: Vec<LineCopy>,
-    pub(crate) line_bytes: u64,
+    line_bytes: u64,
 }
 
 impl Model for Levels {
@@ -96,6 +96,13 @@ impl Levels {
         })
     }
 
+    /// The bytes of a line.
+    pub fn line_bytes(&self) -> u64
+        ensures { result ≡ (self.now).line_bytes }
+    {
+        self.line_bytes
+    }
+
     /// Whether a line is near, in the first level.
     pub fn near(&self, line: Line) -> bool
         ensures { result ≡ level.near line.0 self.now }
@@ -121,7 +128,7 @@ impl Levels {
     }
 
     /// The bytes of a held line, of which the first count, as many as a line has.
-    pub fn copy(&self, line: Line) -> Option<&[u8; 128]>
+    pub fn copy(&self, line: Line) -> Option<&[u8; LINE_ROOM]>
         ensures { option_copied result ≡ option_map (λ copy. copy.bytes) (level.copy_of line.0 self.now) }
     {
         let slot = self.second.find(line)?;
@@ -148,6 +155,13 @@ impl Levels {
     {
         tags::touch(&mut self.first, line);
         tags::touch(&mut self.second, line);
+    }
+
+    /// Whether a way of the second level is reserved for a line.
+    pub fn is_reserved(&self, line: Line) -> bool
+        ensures { result ≡ is_some (reserved_slot line.0 (self.now).second) }
+    {
+        self.second.reserved(line).is_some()
     }
 
     /// Reserves a way of the second level for a line that is not held and has none. The line that the way held leaves
@@ -187,7 +201,7 @@ impl Levels {
 
     /// Puts a line with these bytes into the way of the second level that is reserved for it, and brings it near. The
     /// reservation ends.
-    pub fn fill(&mut self, line: Line, owned: bool, bytes: &[u8; 128])
+    pub fn fill(&mut self, line: Line, owned: bool, bytes: &[u8; LINE_ROOM])
         requires { reserved_slot line.0 (self.old).second ≢ None }
         ensures filled { self.new ≡ level.filled_line line.0 owned bytes.now self.old }
         ensures sound { AreSound self.new }

@@ -2,11 +2,8 @@
 #![tactic(auto)]
 
 mod bytes;
-mod laws;
+pub mod laws;
 mod levels;
 mod tags;
-#[cfg(test)]
-mod tests;
 
-pub use laws::{copies_follow, written_bytes_read_back};
 pub use levels::{Evicted, Levels};

@@ -12,7 +12,8 @@ use Rattle.cache_sets.specs.Caches.{CacheView, slot_count, home_of, set_at, set_
 use Rattle.cache_sets.specs.Sound.{is_slot_of}
 use Rattle.cache_sets.specs.Layout.{number_of, mark_at, way_at, slots_of, view_of, IsKept}
 use Rattle.cache_sets.proofs.Counts.{count_by-cons, count_by_found, count_by_both_le}
-use Rattle.cache_sets.proofs.Soundness.{IsSound-touched, IsSound-with_reserved, IsSound-with_held, IsSound-filled, IsSound-dropped, slot_once}
+use Rattle.cache_sets.specs.Recency.{IsSound-touched}
+use Rattle.cache_sets.proofs.Soundness.{IsSound-with_reserved, IsSound-with_held, IsSound-filled, IsSound-dropped, slot_once}
 use Rattle.cache_sets.proofs.Keeping.{rows_end, ranged, count_by-map, slot_range, found_is_there, slot_is_there, length-sets_by, set_by, mark_at-set, view_of-marked, view_of-put_first, length-put_first, put_first, Shows, shows, in_set-at, in_set-in_set, home_within}
 
 -- ---- where the slots of a line's set stand

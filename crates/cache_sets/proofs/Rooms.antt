@@ -3,6 +3,7 @@ use Rattle.std.proofs.Common.{◌≡◌, ℕ, Bool, true, false, ◌&&◌, cond,
 use Rattle.std.specs.Option.{option_or}
 use Rattle.std.proofs.lemmas.List.Folds.{find-append}
 use Rattle.std.proofs.lemmas.Grind.{reverse_onto}
+use Rattle.list_facts.specs.Options.{option_or_assoc}
 use Rattle.rsim_base.specs.declared.memory.Line.{Line}
 use Rattle.cache_sets.specs.Layout.{mark_at}
 
@@ -17,10 +18,6 @@ free lines reserved slot = is_none (mark_at lines slot) && is_none (mark_at rese
 abbrev pub room_after : {X : Type 0} → (X → Bool) → (X → Bool) → Option X → List X → Option X
 room_after free bare last [] = last
 room_after free bare last (x ∷ xs) = cond (free x) (Some x) (room_after free bare (cond (bare x) (Some x) last) xs)
-
-option_or_assoc : {X : Type 0} (a b c : Option X) → option_or (option_or a b) c ≡ option_or a (option_or b c)
-option_or_assoc None b c = refl
-option_or_assoc (Some x) b c = refl
 
 last_head : {X : Type 0} (b : Bool) (x : X) (last : Option X) → option_or (cond b (Some x) None) last ≡ cond b (Some x) last
 last_head true x last = refl

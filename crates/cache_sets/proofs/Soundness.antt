@@ -1,10 +1,10 @@
 -- Every change of a cache keeps what is true of every cache.
-use Rattle.std.proofs.Common.{◌≡◌, ℕ, ◌+◌, ◌%◌, ◌<◌, ◌≤◌, ◌==◌, ◌/◌, Bool, true, false, not, ◌&&◌, ◌||◌, cond, List, [], length, get_or, set, filter, find, count_by, Option, Some, None, option_map, arith, refl, sym, ap, ◌∙◌, subst, ⊎_elim, length-append}
+use Rattle.std.proofs.Common.{◌≡◌, ℕ, ◌+◌, ◌%◌, ◌<◌, ◌≤◌, ◌==◌, Bool, true, false, not, ◌&&◌, ◌||◌, cond, List, [], length, get_or, set, filter, find, count_by, Option, Some, None, option_map, arith, refl, sym, ap, ◌∙◌, subst, ⊎_elim, length-append}
 use Rattle.std.proofs.lemmas.Bool.{cases_eq, and_right, eq-eqb, ne_eqb}
 use Rattle.std.proofs.lemmas.List.{length-map, length-set, get_or-set_same, get_or-set_other}
 use Rattle.std.proofs.lemmas.List.Filters.{length-filter_both}
 use Rattle.cache_sets.specs.Ways.{Way, names, has_slot, holds, is_reserved_for, reserved_for, held_for, filled_with, emptied, slot_in, reserved_in, room_in, changed_at, touched_in, reserve_in, hold_in, fill_in, drop_in}
-use Rattle.cache_sets.specs.Caches.{CacheView, home_of, set_at, set_of, slot_of, reserved_slot, in_set, touched, with_reserved, with_held, filled, dropped}
+use Rattle.cache_sets.specs.Caches.{CacheView, home_of, set_at, set_of, slot_of, reserved_slot, in_set, with_reserved, with_held, filled, dropped}
 use Rattle.cache_sets.specs.Sound.{IsSound, IsSoundSet, concerns, are_apart, is_torn, is_slot_of}
 use Rattle.cache_sets.proofs.Counts.{one_if, cond_le_one, count_by_le, count_by_agree, count_by_never, count_by_both_le, count_by_split, count_by_either, count_by-changed, count_by-parted, count_by_none, count_by_found}
 
@@ -192,9 +192,6 @@ IsSound-in_set n change cache kept sound =
           (cases_eq k n) in
           rw same there;
     }
-
-pub IsSound-touched : (slot : ℕ) (cache : CacheView) → IsSound cache → IsSound (touched slot cache)
-IsSound-touched slot cache sound = IsSound-in_set (slot / cache.ways) (touched_in slot) cache (λ _ s. IsSoundSet-touched slot (set_at (slot / cache.ways) cache) s) sound
 
 pub IsSound-with_reserved : (line : ℕ) (cache : CacheView) → slot_of line cache ≡ None → reserved_slot line cache ≡ None → IsSound cache → IsSound (with_reserved line cache)
 IsSound-with_reserved line cache absent unreserved sound =

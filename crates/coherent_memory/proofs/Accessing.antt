@@ -9,7 +9,7 @@ use Rattle.cache_levels.specs.Levels.{near, owned, touched_levels, written}
 use Rattle.node_memory.specs.Laws.{ReadFollows, WishFollows}
 use Rattle.node_memory.specs.Nodes.{NodeView, after_read, after_wish, after_write, is_covered, line_at, takes_wish}
 use Rattle.node_memory.specs.Sound.{IsSound}
-use Rattle.coherent_memory.specs.Fine.{HasKept, IsFine}
+use Rattle.coherent_memory.specs.SystemInvariants.{HasKept, IsFine}
 use Rattle.coherent_memory.specs.Laws.{NothingKeeps, WritingKeeps}
 use Rattle.coherent_memory.specs.Systems.{System, is_kept}
 use Rattle.coherent_memory.specs.Turns.{with_node}

@@ -4,7 +4,7 @@ use Rattle.std.specs.List.{flat_map, remove, slice_get}
 use Rattle.std.proofs.lemmas.Bool.{eqb-true, eq-eqb, eqb-false, false_from_ne_true}
 use Rattle.memory_contracts.specs.Carrier.{Flight, sends}
 use Rattle.memory_contracts.specs.Protocol.Messages as Says
-use Rattle.memory_contracts.specs.Said.{Letter, Mail, said}
+use Rattle.memory_contracts.specs.Letters.{Letter, Mail, said}
 use Rattle.memory_contracts.specs.declared.message.Message.{Message}
 use Rattle.directory.specs.Homes.{HomeView, Post}
 use Rattle.node_memory.specs.Nodes.{NodeView, awaits, copy_of}

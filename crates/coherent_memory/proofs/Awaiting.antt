@@ -1,14 +1,15 @@
 -- A line that is granted to a node is awaited there.
 use Rattle.std.proofs.Common.{◌≡◌, ℕ, Bool, true, false, cond, ◌==◌, List, ◌∷◌, refl, sym, ap, ◌∙◌, subst}
 use Rattle.std.proofs.lemmas.Bool.{eq-eqb}
-use Rattle.memory_contracts.specs.Protocol.Coherent.{Coherent, Fits, free, listing, to_invalidate, invalidated, answered, keeping, serving, to_recall, recalled_kept, recalled, to_grant, granted_owned, granted_shared, IsPromised, fresh, upgraded}
+use Rattle.memory_contracts.specs.Protocol.Coherent.{Coherent, Fits, free, listing, to_invalidate, invalidated, answered, keeping, serving, to_recall, recalled_kept, recalled, to_grant, granted_owned, granted_shared}
 use Rattle.memory_contracts.specs.Protocol.Events.{is_to_home}
-use Rattle.memory_contracts.specs.Protocol.Lines.{Cell, Stance, mailed, with_mail}
+use Rattle.memory_contracts.specs.Protocol.Lines.{Cell, mailed, with_mail}
 use Rattle.memory_contracts.specs.Protocol.Messages.{Message, Grant}
 use Rattle.memory_contracts.specs.Protocol.Roles.{Role, role}
-use Rattle.memory_contracts.specs.Said.{said}
+use Rattle.memory_contracts.specs.Protocol.Promised.{promised_waits}
+use Rattle.memory_contracts.specs.Letters.{said}
 use Rattle.node_memory.specs.Rows.{is_grant}
-use Rattle.coherent_memory.specs.Fine.{IsRightFlight}
+use Rattle.coherent_memory.specs.SystemInvariants.{IsRightFlight}
 use Rattle.coherent_memory.specs.Laws.{GrantsAwaited}
 use Rattle.coherent_memory.specs.Systems.{System, alone, between, content, is_kept, line_of, party}
 use Rattle.coherent_memory.specs.Turns.{without_flight}
@@ -19,10 +20,6 @@ use Rattle.coherent_memory.proofs.Lines.{more_at}
 use Rattle.coherent_memory.proofs.Places.{All-at_place}
 
 -- ---- a row of the table with a Grant
-
-promised_waits : (g : List ℕ) (may : Bool) (s : Stance) → IsPromised g may s → s.register ≡ true
-promised_waits g may s (fresh e) = ap (λ s. s.register) e
-promised_waits g _ s (upgraded e) = ap (λ s. s.register) e
 
 granted_waits : (g : List ℕ) (own : Bool) (bytes : List ℕ) (ms : List Message) (c : Cell) (r : Role) → c.words ≡ Grant own bytes ∷ ms → Fits g c r → c.stance.register ≡ true
 granted_waits g own bytes ms c _ e (free w s) = cc

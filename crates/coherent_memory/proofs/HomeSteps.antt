@@ -10,10 +10,10 @@ use Rattle.memory_contracts.specs.Protocol.Events.{is_to_home}
 use Rattle.memory_contracts.specs.Protocol.HomeTable.{HomeStep, after_home, after_step, home_takes}
 use Rattle.memory_contracts.specs.Protocol.Lines.{Cell, all_mailed, mailed, with_mail}
 use Rattle.memory_contracts.specs.Protocol.Messages.{Message}
-use Rattle.memory_contracts.specs.Said.{Letter, letter_of, said}
+use Rattle.memory_contracts.specs.Letters.{Letter, letter_of, said}
 use Rattle.directory.specs.Homes.{HomeView, home_after, posts}
 use Rattle.node_memory.specs.Nodes.{NodeView}
-use Rattle.coherent_memory.specs.Fine.{GoesRight, HasKept, IsFine, IsRight, IsRightFlight, IsRightHome, IsRightLetter, IsRightPost}
+use Rattle.coherent_memory.specs.SystemInvariants.{GoesRight, HasKept, IsFine, IsRight, IsRightFlight, IsRightHome, IsRightLetter, IsRightPost}
 use Rattle.coherent_memory.specs.Laws.{HomeTakesKeeps, ServingKeeps}
 use Rattle.coherent_memory.specs.Systems.{System, alone, between, content, home_at, home_number, if_about, is_kept, line_of, of_letter, of_post}
 use Rattle.coherent_memory.specs.Turns.{with_home, without_flight}

@@ -9,7 +9,7 @@ use Rattle.memory_contracts.specs.Protocol.Laws.{CurrentIsContent, EventsKeepCoh
 use Rattle.memory_contracts.specs.Protocol.Lines.{LineState, with_cell, with_mail}
 use Rattle.memory_contracts.specs.Protocol.Messages.{Message}
 use Rattle.memory_contracts.specs.Protocol.NodeTable.{after_message}
-use Rattle.coherent_memory.specs.Fine.{HasKept, IsFine, IsRight}
+use Rattle.coherent_memory.specs.SystemInvariants.{HasKept, IsFine, IsRight}
 use Rattle.coherent_memory.specs.Systems.{System, content, is_kept, line_of}
 
 -- the protocol's laws that are used

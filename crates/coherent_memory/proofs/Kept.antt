@@ -2,10 +2,10 @@
 use Rattle.std.proofs.Common.{ℕ, ◌<◌, true, List, refl, sym, subst, ◌∙◌}
 use Rattle.rsim_base.specs.declared.memory.Line.{Line}
 use Rattle.rsim_base.specs.declared.memory.Node.{Node}
-use Rattle.memory_contracts.specs.Said.{letter_of}
+use Rattle.memory_contracts.specs.Letters.{letter_of}
 use Rattle.directory.specs.Homes.{HomeView, Serves, home_after}
 use Rattle.node_memory.specs.Sound.{IsSound}
-use Rattle.coherent_memory.specs.Fine.{HasKept, IsFine}
+use Rattle.coherent_memory.specs.SystemInvariants.{HasKept, IsFine}
 use Rattle.coherent_memory.specs.Laws.{BeginKeeps, HomeTakesKeeps, MailKeeps, NodeTakesKeeps, PostKeeps, ServingKeeps, TurnKeeps}
 use Rattle.coherent_memory.specs.Systems.{System}
 use Rattle.coherent_memory.specs.Turns.{HomeSends, NodeSends, Receives, ServesAll, begun, by_home, by_node, ends, full, more, none, nothing, posted, refused, sends, with_home, without_flight, without_mail, without_post}

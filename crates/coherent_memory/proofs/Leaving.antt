@@ -6,7 +6,7 @@ use Rattle.std.proofs.lemmas.Bool.Decides.{nat_tests}
 use Rattle.memory_contracts.specs.Protocol.Lines.{Copy, Absent, Shared, Owned, Evicting, Emptied}
 use Rattle.memory_contracts.specs.Protocol.Messages.{Message, Inv, Recall, Grant, PutAck}
 use Rattle.memory_contracts.specs.Protocol.NodeTable.{NodeStep, evicted, is_held, node_takes}
-use Rattle.memory_contracts.specs.Said.{Letter}
+use Rattle.memory_contracts.specs.Letters.{Letter}
 use Rattle.memory_contracts.specs.Store.{Wish}
 use Rattle.memory_contracts.specs.Updates.{with_at}
 use Rattle.node_memory.specs.Rows.{is_grant}

@@ -30,7 +30,6 @@ pub mod Rooms
 pub mod Rows
 mod Serving
 pub mod Sides
-mod Sizes
 mod Soundness
 mod Starting
 pub mod Staying

@@ -14,11 +14,11 @@ use Rattle.node_memory.specs.Nodes.{NodeView}
 use Rattle.coherent_memory.specs.FabricViews.{system_of}
 use Rattle.coherent_memory.specs.First.{IsFirst}
 use Rattle.coherent_memory.specs.Stores.{Shape, byte_at, store_of}
-use Rattle.coherent_memory.specs.Wholes.{IsWhole, shape_of}
+use Rattle.coherent_memory.specs.MemoryInvariants.{IsWhole, shape_of}
 use Rattle.coherent_memory.specs.declared.fabric.Fabric.{Fabric}
 use Rattle.coherent_memory.proofs.Fabrics.{nodes-sound}
 use Rattle.coherent_memory.proofs.Memories.{nothing-past}
-use Rattle.coherent_memory.proofs.Sizes.{sizes_of}
+use Rattle.machine_config.specs.Sizes.{sizes_of}
 use Rattle.coherent_memory.proofs.Soundness.{IsNothing}
 use Rattle.coherent_memory.proofs.Starting.{mapped-spans, small-first, start-first, whole-first}
 
@@ -37,7 +37,7 @@ module _ {C : Type 0} {b : _} (stay : LinesStayCoherent) (free : OrderIsFree) (c
   shape = shape_of f.count copy line_bytes
 
   some : 0 < config.processors
-  some = (sizes_of config made.allowed).some
+  some = (sizes_of config made.allowed).processors.0
 
   size : IsLineSize config.line
   size =

@@ -8,7 +8,7 @@ use Rattle.memory_contracts.specs.Store.{Wish}
 use Rattle.memory_contracts.specs.Updates.{with_at}
 use Rattle.cache_levels.specs.Levels.{near, owned}
 use Rattle.node_memory.specs.Nodes.{NodeView, copy_of}
-use Rattle.coherent_memory.specs.Fine.{HasKept}
+use Rattle.coherent_memory.specs.SystemInvariants.{HasKept}
 use Rattle.coherent_memory.specs.Stores.{Shape, byte_at, store_of}
 use Rattle.coherent_memory.specs.Systems.{System, content, is_kept}
 use Rattle.coherent_memory.specs.Turns.{with_node}

@@ -20,12 +20,12 @@ use Rattle.node_memory.specs.Nodes.{NodeView, kept_as}
 use Rattle.node_memory.specs.NodeViews.{node_of}
 use Rattle.node_memory.specs.Sound.{AreBefore}
 use Rattle.coherent_memory.specs.FabricViews.{system_of}
-use Rattle.coherent_memory.specs.Fine.{HasKept, IsFine}
+use Rattle.coherent_memory.specs.SystemInvariants.{HasKept, IsFine}
 use Rattle.coherent_memory.specs.NodeRows.{no_node, node_count, nodes_in}
 use Rattle.coherent_memory.specs.Stores.{Shape, store_of}
 use Rattle.coherent_memory.specs.Systems.{System}
 use Rattle.coherent_memory.specs.Turns.{HasTicked, Turns, before, next, with_node}
-use Rattle.coherent_memory.specs.Wholes.{IsWhole}
+use Rattle.coherent_memory.specs.MemoryInvariants.{IsWhole}
 use Rattle.coherent_memory.specs.declared.fabric.Fabric.{Fabric}
 use Rattle.coherent_memory.specs.declared.nodes.Nodes.{Nodes}
 use Rattle.coherent_memory.proofs.Fabrics.{nodes-sound}

@@ -7,12 +7,12 @@ use Rattle.std.proofs.lemmas.Bool.{and_parts, leb-true}
 use Rattle.std.proofs.lemmas.Option.{get_or_from_slice_get, slice_get_within}
 use Rattle.memory_contracts.specs.Carrier.{Flight}
 use Rattle.memory_contracts.specs.Protocol.Events.{is_to_home}
-use Rattle.memory_contracts.specs.Said.{said}
+use Rattle.memory_contracts.specs.Letters.{said}
 use Rattle.directory.specs.Homes as Homes
 use Rattle.node_memory.specs.Nodes as Nodes
 use Rattle.node_memory.specs.Nodes.{awaits}
 use Rattle.node_memory.specs.Rows.{is_grant}
-use Rattle.coherent_memory.specs.Fine.{GoesRight, IsFine, IsRightFlight}
+use Rattle.coherent_memory.specs.SystemInvariants.{GoesRight, IsFine, IsRightFlight}
 use Rattle.coherent_memory.specs.Laws.{GrantsAwaited}
 use Rattle.coherent_memory.specs.Systems.{System, home_number, is_kept}
 use Rattle.coherent_memory.specs.Turns.{rooms}

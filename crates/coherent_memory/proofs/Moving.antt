@@ -4,10 +4,10 @@ use Rattle.std.specs.List.{slice_get}
 use Rattle.std.specs.Option.{option_map}
 use Rattle.std.proofs.lemmas.List.Elements.{All-drop}
 use Rattle.memory_contracts.specs.Protocol.Events.{is_to_home, is_to_node}
-use Rattle.memory_contracts.specs.Said.{Mail, said}
+use Rattle.memory_contracts.specs.Letters.{Mail, said}
 use Rattle.directory.specs.Homes.{Post, first_outgoing, mail_of, may_go}
 use Rattle.node_memory.specs.Nodes.{without_first_mail}
-use Rattle.coherent_memory.specs.Fine.{IsRightMail, IsRightPost}
+use Rattle.coherent_memory.specs.SystemInvariants.{IsRightMail, IsRightPost}
 use Rattle.coherent_memory.specs.Laws.{MailKeeps, PostKeeps}
 use Rattle.coherent_memory.specs.Systems.{home_number, is_kept}
 use Rattle.coherent_memory.specs.Turns.{posted, without_mail, without_post}

@@ -9,7 +9,7 @@ use Rattle.memory_contracts.specs.Updates.{with_at}
 use Rattle.node_memory.specs.Nodes.{NodeView}
 use Rattle.node_memory.specs.Sides.{Side, sends, side_of}
 use Rattle.memory_contracts.specs.Protocol.Lines.{Copy}
-use Rattle.coherent_memory.specs.Fine.{IsRightMail, IsRightNode}
+use Rattle.coherent_memory.specs.SystemInvariants.{IsRightMail, IsRightNode}
 use Rattle.coherent_memory.proofs.Places.{with_at-both}
 use Rattle.coherent_memory.proofs.Sides.{mails}
 

@@ -1,32 +1,12 @@
 -- Parts of a list as functions of their numbers: one part read, one changed, and one added.
-use Rattle.std.proofs.Common.{◌≡◌, ℕ, zero, suc, ◌<◌, ◌==◌, Bool, true, false, cond, List, [], ◌∷◌, ◌++◌, slice_get, get_or, set, length, Option, Some, length-append, refl, sym, ap, subst, ◌∙◌, arith}
+use Rattle.std.proofs.Common.{◌≡◌, ℕ, zero, suc, ◌<◌, ◌==◌, Bool, true, false, cond, List, [], ◌∷◌, ◌++◌, get_or, set, length, Option, length-append, refl, sym, ap, subst, ◌∙◌, arith}
 use Rattle.std.specs.Option.{option_map_or}
 use Rattle.std.proofs.lemmas.Bool.{eqb-true}
 use Rattle.std.proofs.lemmas.Bool.Decides.{nat_tests}
 use Rattle.std.proofs.lemmas.Option.{slice_get-get_or}
+use Rattle.list_facts.specs.Places.{slice_get-append_front, slice_get-set_other, slice_get-set_same, slice_get_last}
 use Rattle.memory_contracts.specs.Updates.{with_at}
 use Rattle.coherent_memory.specs.Rows.{rows_of}
-
-slice_get-set_same : {X : Type 0} (xs : List X) (i : ℕ) (x : X) → i < length xs → slice_get (set xs i x) i ≡ Some x
-slice_get-set_same [] i x h = absurd (omega arith)
-slice_get-set_same (y ∷ ys) zero x h = refl
-slice_get-set_same (y ∷ ys) (suc i) x h = slice_get-set_same ys i x (omega arith)
-
-slice_get-set_other : {X : Type 0} (xs : List X) (i j : ℕ) (x : X) → (j ≡ i → ⊥) → slice_get (set xs i x) j ≡ slice_get xs j
-slice_get-set_other [] i j x ne = refl
-slice_get-set_other (y ∷ ys) zero zero x ne = absurd (ne refl)
-slice_get-set_other (y ∷ ys) zero (suc j) x ne = refl
-slice_get-set_other (y ∷ ys) (suc i) zero x ne = refl
-slice_get-set_other (y ∷ ys) (suc i) (suc j) x ne = slice_get-set_other ys i j x (λ e. ne (ap suc e))
-
-slice_get-pushed : {X : Type 0} (xs : List X) (x : X) → slice_get (xs ++ x ∷ []) (length xs) ≡ Some x
-slice_get-pushed [] x = refl
-slice_get-pushed (y ∷ ys) x = slice_get-pushed ys x
-
-slice_get-before : {X : Type 0} (xs : List X) (x : X) (j : ℕ) → j < length xs → slice_get (xs ++ x ∷ []) j ≡ slice_get xs j
-slice_get-before [] x j below = absurd (omega (arith, below))
-slice_get-before (y ∷ ys) x zero below = refl
-slice_get-before (y ∷ ys) x (suc j) below = slice_get-before ys x j (omega (arith, below))
 
 module _ {A B : Type 0} (view : A → B) (none : B) where
   abbrev seen : Option A → B
@@ -58,10 +38,10 @@ module _ {A B : Type 0} (view : A → B) (none : B) where
   rows_of-each P (x ∷ xs) (suc p) each below = rows_of-each P xs p each (omega (arith, below))
 
   pub rows_of-pushed : (xs : List A) (x : A) → rows_of view none (xs ++ x ∷ []) (length xs) ≡ view x
-  rows_of-pushed xs x = ap seen (slice_get-pushed xs x)
+  rows_of-pushed xs x = ap seen (slice_get_last xs x)
 
   pub rows_of-before : (xs : List A) (x : A) (q : ℕ) → q < length xs → rows_of view none (xs ++ x ∷ []) q ≡ rows_of view none xs q
-  rows_of-before xs x q below = ap seen (slice_get-before xs x q below)
+  rows_of-before xs x q below = ap seen (slice_get-append_front xs (x ∷ []) q below)
 
   -- a property of all parts, with one more
   pub rows_of-more : (P : ℕ → B → Type 0) (xs : List A) (x : A) → ((q : ℕ) → q < length xs → P q (rows_of view none xs q)) → P (length xs) (view x) → (q : ℕ) → q < length (xs ++ x ∷ []) → P q (rows_of view none (xs ++ x ∷ []) q)

@@ -5,11 +5,11 @@ use Rattle.std.proofs.Math.Logic.{∥∥₁_elim}
 use Rattle.std.proofs.Math.Nat.{mod-lt, ℕ_set}
 use Rattle.std.proofs.lemmas.Bool.{cond_both}
 use Rattle.memory_contracts.specs.Carrier.{CarrierView, after_send, class_of, is_full, sends}
-use Rattle.memory_contracts.specs.Said.{Mail}
+use Rattle.memory_contracts.specs.Letters.{Mail}
 use Rattle.memory_contracts.specs.declared.message.Message.{Message}
 use Rattle.directory.specs.Homes.{HomeView, Post, first_outgoing, mail_of, may_go}
 use Rattle.node_memory.specs.Nodes.{NodeView, without_first_mail}
-use Rattle.coherent_memory.specs.Fine.{IsFine, IsRightMail, IsRightPost}
+use Rattle.coherent_memory.specs.SystemInvariants.{IsFine, IsRightMail, IsRightPost}
 use Rattle.coherent_memory.specs.Systems.{System}
 use Rattle.coherent_memory.specs.Sending.{MailsOne, PostsOne, none, refused, sent}
 use Rattle.coherent_memory.specs.Turns as Turns

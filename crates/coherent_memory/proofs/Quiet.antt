@@ -1,17 +1,17 @@
 -- What a turn leaves as it is: other nodes, the carrier's time, how many bytes a line has; and what it fetches it fetches now.
-use Rattle.std.proofs.Common.{◌≡◌, ◌≢◌, ℕ, zero, suc, ◌<◌, All, Bool, true, false, cond, List, [], ◌∷◌, ◌++◌, Option, None, Some, refl, sym, ap, subst, ◌∙◌, append-nil, arith}
+use Rattle.std.proofs.Common.{◌≡◌, ◌≢◌, ℕ, suc, false, cond, List, [], ◌∷◌, Option, None, Some, refl, sym, ap, subst, ◌∙◌, arith}
 use Rattle.std.specs.Option.{option_map_or}
 use Rattle.std.proofs.lemmas.Bool.{cond_both, ne_eqb}
-use Rattle.std.proofs.lemmas.List.Elements.{All-append}
 use Rattle.rsim_base.specs.declared.memory.Line.{Line}
 use Rattle.rsim_base.specs.declared.memory.Node.{Node}
 use Rattle.memory_contracts.specs.Carrier.{CarrierView, after_send}
-use Rattle.memory_contracts.specs.Said.{Letter, letter_of}
+use Rattle.memory_contracts.specs.Letters.{Letter, letter_of}
 use Rattle.memory_contracts.specs.Store.{Wish}
 use Rattle.cache_sets.specs.Caches.{reserved_slot, room_for, with_reserved}
 use Rattle.cache_sets.specs.Ways.{Way}
 use Rattle.cache_levels.specs.Levels.{LevelsView, brought, evicted, held, with_room, without_victim}
 use Rattle.cache_levels.specs.declared.levels.Evicted.{Evicted}
+use Rattle.node_memory.specs.Fetched.{begins-before}
 use Rattle.node_memory.specs.Nodes.{Coming, NodeView, copy_of, with_mails, without_first_mail}
 use Rattle.node_memory.specs.Rows.{after_message, change_at, levels_after}
 use Rattle.node_memory.specs.Sound.{AreBefore}
@@ -106,17 +106,7 @@ node-ticks p _ _ (sends s t mail m next says free rest) = node-ticks p (without_
 pub turn-ticks : (p now : ℕ) (s t : System) (gone : List (Node × Line)) → Turn p now s t gone → t.carrier.ticks ≡ s.carrier.ticks
 turn-ticks p now s t gone turn = node-ticks p turn.sent t turn.node ∙ (home-ticks p now turn.taken turn.sent turn.home ∙ receive-ticks p now (begun p now s) turn.taken turn.told turn.receives)
 
--- ---- the beginning of a turn, by the parts of a node
-
--- of the wishes, only one that is met fetches a line; the caches keep the size of lines
-pub record Begins (now : ℕ) (v w : NodeView) : Type 0 where
-  pub bytes : w.levels.line_bytes ≡ v.levels.line_bytes
-  pub more : List Coming
-  pub coming : w.coming ≡ v.coming ++ more
-  pub since : All (λ (c : Coming). c.since ≡ now) more
-
-nothing-comes : (now : ℕ) (v w : NodeView) → w.levels.line_bytes ≡ v.levels.line_bytes → w.coming ≡ v.coming → Begins now v w
-nothing-comes now v w bytes coming = record { bytes = bytes; more = []; coming = coming ∙ sym (append-nil v.coming); since = λ k d below. absurd (omega (arith, below)) }
+-- ---- the beginning of a turn, by the parts of a node: the caches keep the size of lines
 
 -- the size of lines through a choice
 chosen-bytes : (o : Option Way) (f : Way → LevelsView) (levels : LevelsView) → ((way : Way) → (f way).line_bytes ≡ levels.line_bytes) → (option_map_or f o levels).line_bytes ≡ levels.line_bytes
@@ -130,29 +120,11 @@ room-bytes line levels =
 near-bytes : (line : ℕ) (levels : LevelsView) → (near_if_held line levels).line_bytes ≡ levels.line_bytes
 near-bytes line levels = cond_both (held line levels) (brought line levels) levels (λ (x : LevelsView). x.line_bytes ≡ levels.line_bytes) (λ _. refl) (λ _. refl)
 
--- lines that arrive are no longer on their way
-record Arrives (now : ℕ) (coming left : List Coming) (levels after : LevelsView) : Type 0 where
-  pub bytes : after.line_bytes ≡ levels.line_bytes
-  pub before : AreBefore now coming → AreBefore now left
-
-arrive-keeps : (latency now : ℕ) (coming : List Coming) (levels : LevelsView) → Arrives now coming (arrive latency now coming levels).coming levels (arrive latency now coming levels).levels
-arrive-keeps latency now [] levels = record { bytes = refl; before = λ all. all }
-arrive-keeps latency now (c ∷ cs) levels = by (arrive-keeps latency now cs (near_if_held c.line levels)) (is_due latency now c) refl
-  where
-    rest : AreBefore now (c ∷ cs) → AreBefore now cs
-    rest all k d below = all (suc k) d (omega (arith, below))
-
-    by : Arrives now cs (arrive latency now cs (near_if_held c.line levels)).coming (near_if_held c.line levels) (arrive latency now cs (near_if_held c.line levels)).levels → (b : Bool) → is_due latency now c ≡ b → Arrives now (c ∷ cs) (arrive latency now (c ∷ cs) levels).coming levels (arrive latency now (c ∷ cs) levels).levels
-    by more true e =
-        let same = ap (λ b. cond b (arrive latency now cs (near_if_held c.line levels)) (record { levels = levels; coming = c ∷ cs })) (sym e) in
-        subst (λ (a : Arrival). Arrives now (c ∷ cs) a.coming levels a.levels) same (record { bytes = more.bytes ∙ near-bytes c.line levels; before = λ all. more.before (rest all) })
-    by more false e =
-        let same = ap (λ b. cond b (arrive latency now cs (near_if_held c.line levels)) (record { levels = levels; coming = c ∷ cs })) (sym e) in
-        subst (λ (a : Arrival). Arrives now (c ∷ cs) a.coming levels a.levels) same (record { bytes = refl; before = λ all. all })
-
-All-one : {A : Type 0} (P : A → Type 0) (x : A) → P x → All P (x ∷ [])
-All-one P x is zero d below = is
-All-one P x is (suc k) d below = absurd (omega (arith, below))
+arrive-bytes : (latency now : ℕ) (coming : List Coming) (levels : LevelsView) → (arrive latency now coming levels).levels.line_bytes ≡ levels.line_bytes
+arrive-bytes latency now [] levels = refl
+arrive-bytes latency now (c ∷ cs) levels =
+    cond_both (is_due latency now c) (arrive latency now cs (near_if_held c.line levels)) (record { levels = levels; coming = c ∷ cs }) (λ (a : Arrival). a.levels.line_bytes ≡ levels.line_bytes)
+    (λ _. arrive-bytes latency now cs (near_if_held c.line levels) ∙ near-bytes c.line levels) (λ _. refl)
 
 filled-bytes : (slot : Option ℕ) (f : ℕ → LevelsView) (levels : LevelsView) → ((k : ℕ) → (f k).line_bytes ≡ levels.line_bytes) → (option_map_or f slot levels).line_bytes ≡ levels.line_bytes
 filled-bytes None f levels same = refl
@@ -167,33 +139,29 @@ change-bytes EmptySlot line levels = refl
 change-bytes FreeSlot line levels = refl
 
 -- a line that leaves is put back
-put-stays : (line : Option Line) (f : Line → NodeView) (v : NodeView) → ((l : Line) → ((f l).levels.line_bytes ≡ v.levels.line_bytes) × ((f l).coming ≡ v.coming)) →
-    ((option_map_or f line v).levels.line_bytes ≡ v.levels.line_bytes) × ((option_map_or f line v).coming ≡ v.coming)
-put-stays None f v same = (refl, refl)
-put-stays (Some l) f v same = same l
+put-bytes : (line : Option Line) (f : Line → NodeView) (v : NodeView) → ((l : Line) → (f l).levels.line_bytes ≡ v.levels.line_bytes) → (option_map_or f line v).levels.line_bytes ≡ v.levels.line_bytes
+put-bytes None f v same = refl
+put-bytes (Some l) f v same = same l
 
-absent-begins : (now : ℕ) (w : Wish) (e : Option Evicted) (v : NodeView) → Begins now v (starts_absent w e v).after
-absent-begins now w None v = nothing-comes now v v refl refl
-absent-begins now w (Some e) v =
+absent-bytes : (w : Wish) (e : Option Evicted) (v : NodeView) → (starts_absent w e v).after.levels.line_bytes ≡ v.levels.line_bytes
+absent-bytes w None v = refl
+absent-bytes w (Some e) v =
     let room = record v { levels = with_room w.line v.levels; misses = slots_with e v.misses } in
-    let put = put-stays e.line (λ line. with_mails line.0 (put_for e) room) room (λ line. (refl, refl)) in
-    nothing-comes now v (starts_absent w (Some e) v).after (put.0 ∙ room-bytes w.line v.levels) put.1
+    put-bytes e.line (λ line. with_mails line.0 (put_for e) room) room (λ line. refl) ∙ room-bytes w.line v.levels
 
-start-begins : (now : ℕ) (w : Wish) (v : NodeView) → Begins now v (starts w v).after
-start-begins now w v =
-    cond_both (is_absent (copy_of v w.line)) (starts_absent w (evicted w.line v.levels) v) (starts_shared w v) (λ (b : Begun). Begins now v b.after)
-    (λ _. absent-begins now w (evicted w.line v.levels) v)
-    (λ _. nothing-comes now v (starts_shared w v).after refl refl)
+start-bytes : (w : Wish) (v : NodeView) → (starts w v).after.levels.line_bytes ≡ v.levels.line_bytes
+start-bytes w v =
+    cond_both (is_absent (copy_of v w.line)) (starts_absent w (evicted w.line v.levels) v) (starts_shared w v) (λ (b : Begun). b.after.levels.line_bytes ≡ v.levels.line_bytes)
+    (λ _. absent-bytes w (evicted w.line v.levels) v) (λ _. refl)
 
-first-begins : (now : ℕ) (ws : List Wish) (v : NodeView) → Begins now v (first_begins now ws v).after
-first-begins now [] v = nothing-comes now v (record v { wishes = [] }) refl refl
-first-begins now (w ∷ ws) v =
+first-bytes : (now : ℕ) (ws : List Wish) (v : NodeView) → (first_begins now ws v).after.levels.line_bytes ≡ v.levels.line_bytes
+first-bytes now [] v = refl
+first-bytes now (w ∷ ws) v =
     let rest : NodeView = record v { wishes = ws } in
     let waits : Begun = record { answer = false; after = record v { wishes = w ∷ ws }; lost = [] } in
-    cond_both (meets w.own (copy_of v w.line)) (met now w rest) (cond (has_to_wait w v) waits (starts w rest)) (λ (b : Begun). Begins now v b.after)
-    (λ _. record { bytes = refl; more = record { line = w.line; since = now } ∷ []; coming = refl; since = All-one (λ (c : Coming). c.since ≡ now) (record { line = w.line; since = now }) refl })
-    (λ _.
-    cond_both (has_to_wait w v) waits (starts w rest) (λ (b : Begun). Begins now v b.after) (λ _. nothing-comes now v waits.after refl refl) (λ _. let b = start-begins now w rest in record { bytes = b.bytes; more = b.more; coming = b.coming; since = b.since }))
+    let Same : Begun → Type 0 = λ b. b.after.levels.line_bytes ≡ v.levels.line_bytes in
+    cond_both (meets w.own (copy_of v w.line)) (met now w rest) (cond (has_to_wait w v) waits (starts w rest)) Same (λ _. refl)
+    (λ _. cond_both (has_to_wait w v) waits (starts w rest) Same (λ _. refl) (λ _. start-bytes w rest))
 
 -- ---- what lasts through turns
 
@@ -202,7 +170,7 @@ pub bytes-last : (now lb : ℕ) → Lasts now (λ v. v.levels.line_bytes ≡ lb)
 bytes-last now lb = record {
   begin = λ v is.
       let u = arrived now v in
-      (first-begins now (uncovered u.misses u.wishes) u).bytes ∙ ((arrive-keeps v.latency now v.coming v.levels).bytes ∙ is);
+      first-bytes now (uncovered u.misses u.wishes) u ∙ (arrive-bytes v.latency now v.coming v.levels ∙ is);
   message = λ m v is. change-bytes (change_at m v) m.line v.levels ∙ is;
   sent = λ v is. is;
 }
@@ -210,13 +178,7 @@ bytes-last now lb = record {
 -- what is on its way was fetched before
 pub coming-lasts : (now : ℕ) → Lasts now (λ v. AreBefore now v.coming) (λ v. AreBefore (suc now) v.coming)
 coming-lasts now = record {
-  begin = λ v is.
-      let u = arrived now v in
-      let b = first-begins now (uncovered u.misses u.wishes) u in
-      let left = (arrive-keeps v.latency now v.coming v.levels).before is in
-      let P : Coming → Type 0 = λ c. c.since < suc now in
-      subst (λ (cs : List Coming). All P cs) (sym b.coming)
-      (All-append P u.coming b.more (λ k d below. omega (arith, left k d below)) (λ k d below. omega (arith, b.since k d below)));
+  begin = λ v is k d below. omega (arith, begins-before now v is k d below);
   message = λ m v is. is;
   sent = λ v is. is;
 }

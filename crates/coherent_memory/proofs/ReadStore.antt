@@ -19,7 +19,7 @@ use Rattle.node_memory.specs.Laws.{HeldFollows, ReadFollows}
 use Rattle.node_memory.specs.Nodes.{NodeView, after_read, byte_in, copy_of, kept_as, line_at, read_of}
 use Rattle.node_memory.specs.Sides.{Side}
 use Rattle.node_memory.specs.Sound.{IsSound}
-use Rattle.coherent_memory.specs.Fine.{HasKept, IsFine}
+use Rattle.coherent_memory.specs.SystemInvariants.{HasKept, IsFine}
 use Rattle.coherent_memory.specs.Laws.{NearAfterRead}
 use Rattle.coherent_memory.specs.Stores.{Shape, byte_at, store_of}
 use Rattle.coherent_memory.specs.Systems.{System}

@@ -9,12 +9,12 @@ use Rattle.memory_contracts.specs.Protocol.Events.{is_to_home, is_to_node}
 use Rattle.memory_contracts.specs.Protocol.Lines.{Absent, Cell, Copy, Emptied, Evicting, Owned, Shared, all_mailed, with_cell}
 use Rattle.memory_contracts.specs.Protocol.Messages.{Done, Grant, Inv, InvAck, Message, PutAck, Recall, RecallAck}
 use Rattle.memory_contracts.specs.Protocol.NodeTable.{NodeStep, after_message, node_takes}
-use Rattle.memory_contracts.specs.Said.{Letter, letter_of}
+use Rattle.memory_contracts.specs.Letters.{Letter, letter_of}
 use Rattle.memory_contracts.specs.Updates.{with_at}
 use Rattle.node_memory.specs.Nodes.{NodeView}
 use Rattle.node_memory.specs.Rows as rows
 use Rattle.node_memory.specs.Sides.{Side, side_of, takes_message, takes_step}
-use Rattle.coherent_memory.specs.Fine.{GoesRight, IsRightFlight}
+use Rattle.coherent_memory.specs.SystemInvariants.{GoesRight, IsRightFlight}
 use Rattle.coherent_memory.specs.Laws.{NodeTakesKeeps}
 use Rattle.coherent_memory.specs.Systems.{System, content, is_kept, line_of, party}
 use Rattle.coherent_memory.specs.Turns.{node_takes as taken_at, with_node, without_flight}

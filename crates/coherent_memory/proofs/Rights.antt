@@ -6,11 +6,11 @@ use Rattle.memory_contracts.specs.Carrier.{CarrierView, sends}
 use Rattle.memory_contracts.specs.Protocol.Events.{is_to_home, is_to_node}
 use Rattle.memory_contracts.specs.Protocol.Messages as Says
 use Rattle.memory_contracts.specs.Protocol.Messages.{GetS, GetM, Put, Inv, Recall, Grant, PutAck, InvAck, RecallAck, Done}
-use Rattle.memory_contracts.specs.Said.{said}
+use Rattle.memory_contracts.specs.Letters.{said}
 use Rattle.memory_contracts.specs.declared.message.Message.{Message}
 use Rattle.directory.specs.Homes.{HomeView}
 use Rattle.node_memory.specs.Nodes.{NodeView}
-use Rattle.coherent_memory.specs.Fine.{GoesRight, IsRight, IsRightFlight, IsRightHome, IsRightNode}
+use Rattle.coherent_memory.specs.SystemInvariants.{GoesRight, IsRight, IsRightFlight, IsRightHome, IsRightNode}
 use Rattle.coherent_memory.specs.Systems.{System, home_number, is_kept}
 use Rattle.coherent_memory.specs.Turns.{is_refused, posted, with_carrier, with_home, with_node}
 use Rattle.coherent_memory.proofs.Places.{with_at-both}

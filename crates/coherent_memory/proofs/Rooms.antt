@@ -14,9 +14,9 @@ use Rattle.memory_contracts.specs.Protocol.HomeTable.{HomeStep, home_row, home_t
 use Rattle.memory_contracts.specs.Protocol.Laws.{OneFromHome}
 use Rattle.memory_contracts.specs.Protocol.Lines.{HomeRecord, Phase, Idle, Collecting, Recalling, Granting, besides, is_some_node, joined, nobody}
 use Rattle.memory_contracts.specs.Protocol.Messages.{Message, GetS, GetM, Put, Inv, Recall, Grant, PutAck, InvAck, RecallAck, Done}
-use Rattle.memory_contracts.specs.Said.{Letter}
+use Rattle.memory_contracts.specs.Letters.{Letter}
 use Rattle.directory.specs.Homes.{HomeView, Post, first_for, home_after, is_idle, post_to, posts}
-use Rattle.coherent_memory.specs.Fine.{IsFine, IsRightPost}
+use Rattle.coherent_memory.specs.SystemInvariants.{IsFine, IsRightPost}
 use Rattle.coherent_memory.specs.Rooms.{Grows, RoomStays, ServingGrows, ServingShortens, StartGrows, TakingGrows}
 use Rattle.coherent_memory.specs.Systems.{System, alone, content, home_at, home_number, is_kept, line_of, of_flight, of_letter, of_mail, of_post}
 use Rattle.coherent_memory.proofs.Counting.{IsAbout, count-append, from_home-all_mailed, posts-counted, posts_to, sum_below-few}

@@ -11,7 +11,7 @@ use Rattle.memory_contracts.specs.Protocol.HomeTable.{HomeStep, collects, grants
 use Rattle.memory_contracts.specs.Protocol.Lines.{HomeRecord, Phase, Idle, Collecting, Recalling, Granting, besides, is_some_node, joined, nobody}
 use Rattle.memory_contracts.specs.Protocol.Messages.{Message, GetS, GetM, Put, Inv, Recall, Grant, PutAck, InvAck, RecallAck, Done}
 use Rattle.directory.specs.Homes.{post_to, posts}
-use Rattle.coherent_memory.specs.Fine.{IsRightPost}
+use Rattle.coherent_memory.specs.SystemInvariants.{IsRightPost}
 use Rattle.coherent_memory.specs.Systems.{home_number, if_about, of_post}
 use Rattle.coherent_memory.proofs.Places.{eqb-refl}
 

@@ -6,7 +6,7 @@ use Rattle.memory_contracts.specs.Protocol.Alike.{AreAlike, IsAlike}
 use Rattle.memory_contracts.specs.Protocol.Coherent.{Coherent}
 use Rattle.memory_contracts.specs.Protocol.Lines.{Cell, Copy, LineState, Stance, all_mailed, cell, mailed, with_cell, with_stance}
 use Rattle.memory_contracts.specs.Protocol.Messages.{Message, GetS, GetM, Put, PutAck}
-use Rattle.memory_contracts.specs.Said.{Mail}
+use Rattle.memory_contracts.specs.Letters.{Mail}
 use Rattle.node_memory.specs.Nodes.{NodeView}
 use Rattle.node_memory.specs.Sides.{Side, side_of}
 use Rattle.coherent_memory.specs.Systems.{System, alone, home_at, line_of, of_mail}

@@ -14,7 +14,7 @@ use Rattle.cache_levels.specs.declared.levels.LineCopy.{LineCopy}
 use Rattle.node_memory.specs.Laws.{HeldFollows}
 use Rattle.node_memory.specs.Nodes.{NodeView, copy_of, kept_as}
 use Rattle.node_memory.specs.Sound as node
-use Rattle.coherent_memory.specs.Fine.{IsFine}
+use Rattle.coherent_memory.specs.SystemInvariants.{IsFine}
 use Rattle.coherent_memory.specs.Lost.{holds}
 use Rattle.coherent_memory.specs.Stores.{Shape, store_of}
 use Rattle.coherent_memory.specs.Systems.{System, line_of}

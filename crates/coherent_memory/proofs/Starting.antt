@@ -1,19 +1,19 @@
 -- Memory at first: nobody has a line, and the bytes are the image's.
-use Rattle.std.proofs.Common.{◌≡◌, ℕ, zero, suc, ◌+◌, ◌*◌, ◌/◌, ◌%◌, ◌^◌, ◌<◌, ◌≤◌, ◌||◌, Bool, true, false, cond, List, [], ◌∷◌, ◌++◌, find, map, get_or, slice_get, slice_index, Option, None, option_map, option_and_then, unwrap_or, is_some, mul_comm, refl, sym, ap, subst, ◌∙◌, ⊎_elim, arith}
+use Rattle.std.proofs.Common.{◌≡◌, ℕ, ◌+◌, ◌*◌, ◌/◌, ◌%◌, ◌^◌, ◌<◌, ◌≤◌, ◌||◌, Bool, true, false, cond, List, [], ◌++◌, slice_get, slice_index, Option, None, option_and_then, is_some, mul_comm, refl, sym, ap, subst, ◌∙◌, ⊎_elim, arith}
 use Rattle.std.specs.FinMap.{get-empty}
 use Rattle.std.specs.Option.{option_map_or}
 use Rattle.std.specs.Ordering.{nat_cmp}
-use Rattle.std.specs.List.{All, flat_map, list_any, range_with_len}
+use Rattle.std.specs.List.{All, flat_map, list_any}
 use Rattle.std.proofs.Math.Nat.{div-add-mod, mod-lt}
-use Rattle.std.proofs.lemmas.Bool.{cases_lt, false_from_ne_true, or_parts}
+use Rattle.std.proofs.lemmas.Bool.{cases_lt, false_from_ne_true}
 use Rattle.std.proofs.lemmas.List.Elements.{All-nil}
-use Rattle.elf64_load.specs.Image.{ImageView, byte_at, content_at, holds as region_holds, in_one_stack, is_mapped}
+use Rattle.elf64_load.specs.Image.{ImageView, byte_at, holds as region_holds, in_one_stack, is_mapped}
 use Rattle.elf64_load.specs.Layout.{spans}
 use Rattle.elf64_load.specs.declared.span.Span.{Span}
+use Rattle.image_memory.specs.Images.{byte_at-unmapped}
 use Rattle.machine_config.specs.declared.config.Config.{Config}
 use Rattle.machine_config.specs.declared.config.Protocol.TheVariants.{Msi}
-use Rattle.cache_sets.specs.Caches.{empty_cache, empty_way, home_of, slot_of}
-use Rattle.cache_sets.specs.Ways.{Way, holds}
+use Rattle.cache_sets.specs.Empty.{slot_of-empty}
 use Rattle.cache_levels.specs.Levels as level
 use Rattle.cache_levels.specs.Levels.{empty_levels, near, owned}
 use Rattle.memory_contracts.specs.Protocol.Alike.{AreAlike, IsAlike}
@@ -23,36 +23,22 @@ use Rattle.memory_contracts.specs.Protocol.Laws.{CurrentIsContent, LinesStayCohe
 use Rattle.memory_contracts.specs.Protocol.Lines.{Cell, Idle, Absent, all_mailed, cell, nobody, stance}
 use Rattle.memory_contracts.specs.Protocol.Messages.{Message}
 use Rattle.memory_contracts.specs.Protocol.NodeTable.{is_held}
-use Rattle.memory_contracts.specs.Kept.{mapped_in}
+use Rattle.memory_contracts.specs.FlatLayout.{mapped_in}
 use Rattle.memory_contracts.specs.Start.{IsStart}
 use Rattle.cache_levels.specs.Sizes.{IsLineSize}
 use Rattle.miss_registers.specs.Misses.{victim_of}
 use Rattle.node_memory.specs.Nodes.{Coming, NodeView, awaits, copy_of, empty_node, kept_as, no_misses}
 use Rattle.node_memory.specs.Sound.{AreBefore}
-use Rattle.coherent_memory.specs.Fine.{IsFine, IsRightFlight, IsRightLetter, IsRightMail, IsRightNode, IsRightPost}
+use Rattle.coherent_memory.specs.SystemInvariants.{IsFine, IsRightFlight, IsRightLetter, IsRightMail, IsRightNode, IsRightPost}
 use Rattle.coherent_memory.specs.First.{IsFirst}
 use Rattle.coherent_memory.specs.Stores as store
 use Rattle.coherent_memory.specs.Stores.{Shape, store_of}
 use Rattle.coherent_memory.specs.Systems.{System, alone, between, content, home_at, home_number, is_kept, line_of, of_flight, of_letter, of_mail, of_post}
-use Rattle.coherent_memory.specs.Wholes.{IsWhole}
+use Rattle.coherent_memory.specs.MemoryInvariants.{IsWhole}
 use Rattle.coherent_memory.proofs.Alike.{IsAlike-refl}
 use Rattle.coherent_memory.proofs.Soundness.{IsNothing, clash}
 
 -- ---- an empty node
-
-nothing_held : (line : ℕ) (slots : List ℕ) → find (holds line) (map empty_way slots) ≡ None
-nothing_held line [] = refl
-nothing_held line (slot ∷ slots) = nothing_held line slots
-
-none_in_any : (line : ℕ) (make : ℕ → List Way) (sets : List ℕ) (n : ℕ) → ((k : ℕ) → find (holds line) (make k) ≡ None) → find (holds line) (get_or (map make sets) n []) ≡ None
-none_in_any line make [] n none = refl
-none_in_any line make (s ∷ ss) zero none = none s
-none_in_any line make (s ∷ ss) (suc n) none = none_in_any line make ss n none
-
-slot_of-empty : (sets ways line : ℕ) → slot_of line (empty_cache sets ways) ≡ None
-slot_of-empty sets ways line =
-    ap (option_map (λ (way : Way). way.slot))
-    (none_in_any line (λ n. map empty_way (range_with_len (n * ways) ways)) (range_with_len 0 sets) (home_of line (empty_cache sets ways)) (λ n. nothing_held line (range_with_len (n * ways) ways)))
 
 copy-empty : (config : Config) (l : ℕ) → level.copy_of l (empty_levels config) ≡ None
 copy-empty config l = ap (λ (o : Option ℕ). option_and_then (slice_get (empty_levels config).copies) o) (slot_of-empty config.l2_sets config.l2_ways l)
@@ -143,18 +129,6 @@ module _ (stay : LinesStayCoherent) (order : OrderIsFree) (current : CurrentIsCo
       }
 
 -- ---- the store
-
-find-none_any : {X : Type 0} (p : X → Bool) (xs : List X) → list_any p xs ≡ false → find p xs ≡ None
-find-none_any p [] none = refl
-find-none_any p (x ∷ xs) none =
-    let parts = or_parts (p x) (list_any p xs) none in
-    rw parts.0 (find-none_any p xs parts.1)
-
--- the image has a zero where there is no memory
-byte_at-unmapped : (image : ImageView) (a : ℕ) → is_mapped image a ≡ false → byte_at image a ≡ 0
-byte_at-unmapped image a none =
-    let parts = or_parts (list_any (region_holds a 1) image.regions) (in_one_stack a 1) none in
-    ap (λ o. unwrap_or (option_map (content_at a) o) 0) (find-none_any (region_holds a 1) image.regions parts.0)
 
 module _ (stay : LinesStayCoherent) (order : OrderIsFree) (current : CurrentIsContent) (image : ImageView) (config : Config) (s : System) (some : 0 < config.processors) (first : IsFirst image config s)
     (shape : Shape) (nodes : shape.nodes ≡ config.processors) (bytes : shape.line_bytes ≡ config.line) (wide : 0 < config.line) where

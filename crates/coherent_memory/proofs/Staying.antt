@@ -7,10 +7,10 @@ use Rattle.std.proofs.lemmas.List.Folds.{flat_map-map}
 use Rattle.std.proofs.Math.ListN.{get_or-map}
 use Rattle.memory_contracts.specs.Carrier.{CarrierView, Flight, unmarked}
 use Rattle.memory_contracts.specs.Protocol.NodeTable.{is_held}
-use Rattle.memory_contracts.specs.Said.{Mail}
+use Rattle.memory_contracts.specs.Letters.{Mail}
 use Rattle.node_memory.specs.Nodes.{NodeView, awaits, copy_of}
 use Rattle.node_memory.specs.Sides.{side_of}
-use Rattle.coherent_memory.specs.Fine.{IsRightFlight, IsRightMail}
+use Rattle.coherent_memory.specs.SystemInvariants.{IsRightFlight, IsRightMail}
 use Rattle.coherent_memory.specs.Laws.{CarryingKeeps, NothingKeeps}
 use Rattle.coherent_memory.specs.Systems.{System, between, home_at, is_kept, of_flight, of_mail}
 use Rattle.coherent_memory.specs.Turns.{with_carrier, with_node}

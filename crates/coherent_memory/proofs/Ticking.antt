@@ -9,7 +9,7 @@ use Rattle.memory_contracts.specs.Store.{IsLeftOf, Ticks, Wish}
 use Rattle.node_memory.specs.Laws.{WishesLeave}
 use Rattle.node_memory.specs.Nodes.{NodeView}
 use Rattle.node_memory.specs.Starting.{begins}
-use Rattle.coherent_memory.specs.Fine.{HasKept}
+use Rattle.coherent_memory.specs.SystemInvariants.{HasKept}
 use Rattle.coherent_memory.specs.Lost.{AreGone}
 use Rattle.coherent_memory.specs.Stores.{Shape, store_of}
 use Rattle.coherent_memory.specs.Systems.{System}

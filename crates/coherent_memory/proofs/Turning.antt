@@ -5,13 +5,13 @@ use Rattle.rsim_base.specs.declared.memory.Line.{Line}
 use Rattle.rsim_base.specs.declared.memory.Node.{Node}
 use Rattle.memory_contracts.specs.Carrier.{CarrierView}
 use Rattle.memory_contracts.specs.Protocol.NodeTable.{is_held}
-use Rattle.memory_contracts.specs.Said.{Letter, letter_of}
+use Rattle.memory_contracts.specs.Letters.{Letter, letter_of}
 use Rattle.node_memory.specs.Nodes.{NodeView, awaits, copy_of, left_from, without_first_mail}
 use Rattle.node_memory.specs.Rows.{after_message, is_grant, lost_at}
 use Rattle.node_memory.specs.Sides.{Side, side_of}
 use Rattle.node_memory.specs.Sound.{IsSound}
 use Rattle.node_memory.specs.Starting.{begins}
-use Rattle.coherent_memory.specs.Fine.{IsFine}
+use Rattle.coherent_memory.specs.SystemInvariants.{IsFine}
 use Rattle.coherent_memory.specs.Laws.{BeginKeeps, GrantsAwaited}
 use Rattle.coherent_memory.specs.Lost.{AreGone, TurnTells, holds}
 use Rattle.coherent_memory.specs.Systems.{System}

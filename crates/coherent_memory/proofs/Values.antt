@@ -11,7 +11,7 @@ use Rattle.memory_contracts.specs.Protocol.NodeTable.{is_held}
 use Rattle.memory_contracts.specs.Store.{value_at}
 use Rattle.cache_levels.specs.Sizes.{IsLineSize}
 use Rattle.node_memory.specs.Nodes.{byte_in, copy_of}
-use Rattle.coherent_memory.specs.Fine.{IsFine}
+use Rattle.coherent_memory.specs.SystemInvariants.{IsFine}
 use Rattle.coherent_memory.specs.Lost.{holds}
 use Rattle.coherent_memory.specs.Stores.{Shape, byte_at}
 use Rattle.coherent_memory.specs.Systems.{System, between, content, is_kept, line_of}

@@ -4,7 +4,7 @@ use Rattle.std.proofs.lemmas.Bool.{cond_both, eqb-true}
 use Rattle.memory_contracts.specs.Store as store
 use Rattle.memory_contracts.specs.Store.{StoreView, Wish}
 use Rattle.node_memory.specs.Nodes.{NodeView, after_wish, is_covered, takes_wish}
-use Rattle.coherent_memory.specs.Fine.{HasKept}
+use Rattle.coherent_memory.specs.SystemInvariants.{HasKept}
 use Rattle.coherent_memory.specs.Stores.{Shape, byte_at, store_of}
 use Rattle.coherent_memory.specs.Systems.{System}
 use Rattle.coherent_memory.specs.Turns.{with_node}

@@ -6,6 +6,7 @@ use Rattle.std.proofs.Math.Nat.{ℕ_set}
 use Rattle.std.proofs.lemmas.Bool.{cond_both, eq-eqb, eqb-true, ne_eqb}
 use Rattle.rsim_base.specs.Bytes.{count_of}
 use Rattle.rsim_base.specs.declared.memory.Size.{Size}
+use Rattle.rsim_base.specs.Limits.{line_room}
 use Rattle.memory_contracts.specs.Protocol.Content.{bytes_of}
 use Rattle.memory_contracts.specs.Protocol.Laws.{OwnedHasContent, SharedHasContent}
 use Rattle.memory_contracts.specs.Protocol.Lines.{Copy, Owned}
@@ -25,7 +26,7 @@ use Rattle.node_memory.specs.Laws.{WriteFollows}
 use Rattle.node_memory.specs.Nodes.{NodeView, after_write, copy_of, kept_as, line_at}
 use Rattle.node_memory.specs.Sides.{Side}
 use Rattle.node_memory.specs.Sound.{IsSound}
-use Rattle.coherent_memory.specs.Fine.{IsFine}
+use Rattle.coherent_memory.specs.SystemInvariants.{IsFine}
 use Rattle.coherent_memory.specs.Laws.{HasWritten, NearAfterWrite, WritingKeeps}
 use Rattle.coherent_memory.specs.Stores.{Shape, byte_at, store_of}
 use Rattle.coherent_memory.specs.Systems.{System, content, is_kept}
@@ -50,19 +51,19 @@ write-bytes a n value v =
     (λ _. record { bytes = refl; coming = refl; wishes = refl })
     (λ _. record { bytes = refl; coming = refl; wishes = refl })
 
--- a line that is owned has 128 bytes
+-- a line that is owned has room for the longest
 granted-bytes : (own : Bool) (bytes : List ℕ) → bytes_of (granted own bytes) ≡ bytes
 granted-bytes true bytes = refl
 granted-bytes false bytes = refl
 
-owned-length : (v : NodeView) (l : ℕ) → AreSound v.levels → owned l v.levels ≡ true → length (bytes_of (copy_of v l)) ≡ 128
+owned-length : (v : NodeView) (l : ℕ) → AreSound v.levels → owned l v.levels ≡ true → length (bytes_of (copy_of v l)) ≡ line_room
 owned-length v l sound own = by-slot (slot_of l v.levels.second) own
   where
-    by-copy : (k : ℕ) (o : Option LineCopy) → slice_get v.levels.copies k ≡ o → option_map_or (λ (c : LineCopy). c.owned) o false ≡ true → length (bytes_of (kept_as o (victim_of v.misses l))) ≡ 128
+    by-copy : (k : ℕ) (o : Option LineCopy) → slice_get v.levels.copies k ≡ o → option_map_or (λ (c : LineCopy). c.owned) o false ≡ true → length (bytes_of (kept_as o (victim_of v.misses l))) ≡ line_room
     by-copy k None at own = absurd (true≢false (sym own))
-    by-copy k (Some copy) at own = ap (λ (bs : List ℕ). length bs) (granted-bytes copy.owned copy.bytes) ∙ All-at_place (λ (c : LineCopy). length c.bytes ≡ 128) v.levels.copies k copy sound.bytes at
+    by-copy k (Some copy) at own = ap (λ (bs : List ℕ). length bs) (granted-bytes copy.owned copy.bytes) ∙ All-at_place (λ (c : LineCopy). length c.bytes ≡ line_room) v.levels.copies k copy sound.bytes at
 
-    by-slot : (o : Option ℕ) → option_map_or (λ (c : LineCopy). c.owned) (option_and_then (slice_get v.levels.copies) o) false ≡ true → length (bytes_of (kept_as (option_and_then (slice_get v.levels.copies) o) (victim_of v.misses l))) ≡ 128
+    by-slot : (o : Option ℕ) → option_map_or (λ (c : LineCopy). c.owned) (option_and_then (slice_get v.levels.copies) o) false ≡ true → length (bytes_of (kept_as (option_and_then (slice_get v.levels.copies) o) (victim_of v.misses l))) ≡ line_room
     by-slot None own = absurd (true≢false (sym own))
     by-slot (Some k) own = by-copy k (slice_get v.levels.copies k) refl own
 
@@ -108,7 +109,7 @@ module _ (shared : SharedHasContent) (own : OwnedHasContent) (reads : WriteReads
     long : lb ≤ length (content shape.nodes s (a / lb))
     long =
         let held = owned-held (s.nodes p) (a / lb) owns in
-        let is : length (content shape.nodes s (a / lb)) ≡ 128 =
+        let is : length (content shape.nodes s (a / lb)) ≡ line_room =
         ap (λ (bs : List ℕ). length bs) (sym (held_has-content shared own shape.nodes s p (a / lb) fine below held)) ∙ owned-length (s.nodes p) (a / lb) sound.levels owns in
         let high = size.high in
         omega (arith, is, high)

@@ -19,7 +19,7 @@ use Rattle.cache_levels.specs.declared.levels.LineCopy.{LineCopy}
 use Rattle.miss_registers.specs.Misses.{victim_of}
 use Rattle.node_memory.specs.Nodes.{NodeView, after_write, copy_of, kept_as, line_at}
 use Rattle.node_memory.specs.Sides.{Side, side_of}
-use Rattle.coherent_memory.specs.Fine.{IsRight}
+use Rattle.coherent_memory.specs.SystemInvariants.{IsRight}
 use Rattle.coherent_memory.specs.Laws.{WritingKeeps, written_in}
 use Rattle.coherent_memory.specs.Systems.{System, content, is_kept, line_of}
 use Rattle.coherent_memory.specs.Turns.{with_node}

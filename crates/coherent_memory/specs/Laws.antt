@@ -5,7 +5,7 @@ use Rattle.rsim_base.specs.declared.memory.Node.{Node}
 use Rattle.rsim_base.specs.declared.memory.Size.{Size}
 use Rattle.memory_contracts.specs.Carrier.{CarrierTicks, CarrierView, Flight}
 use Rattle.memory_contracts.specs.Protocol.Events.{is_to_home}
-use Rattle.memory_contracts.specs.Said.{Mail, letter_of, said}
+use Rattle.memory_contracts.specs.Letters.{Mail, letter_of, said}
 use Rattle.memory_contracts.specs.Store.{Wish}
 use Rattle.memory_contracts.specs.declared.message.Message.{Message}
 use Rattle.cache_levels.specs.Bytes.{written_at}
@@ -15,7 +15,7 @@ use Rattle.node_memory.specs.Nodes.{NodeView, after_read, after_write, awaits, l
 use Rattle.node_memory.specs.Rows.{is_grant}
 use Rattle.node_memory.specs.Sides.{side_of}
 use Rattle.node_memory.specs.Sound.{IsSound}
-use Rattle.coherent_memory.specs.Fine.{HasKept, IsFine}
+use Rattle.coherent_memory.specs.SystemInvariants.{HasKept, IsFine}
 use Rattle.coherent_memory.specs.Systems.{System, content, is_kept}
 use Rattle.coherent_memory.specs.Turns.{IsSaying, Turn, begun, is_refused, next_mail, next_post, node_takes, posted, with_carrier, with_home, with_node, without_flight, without_mail, without_post}
 

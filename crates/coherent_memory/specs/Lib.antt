@@ -1,6 +1,6 @@
 pub mod FabricViews
 pub mod Fabrics
-pub mod Fine
+pub mod SystemInvariants
 pub mod First
 pub mod HomeRows
 pub mod Laws
@@ -13,4 +13,4 @@ pub mod Sending
 pub mod Stores
 pub mod Systems
 pub mod Turns
-pub mod Wholes
+pub mod MemoryInvariants

@@ -6,7 +6,7 @@ use Rattle.memory_contracts.specs.Protocol.NodeTable.{is_held}
 use Rattle.memory_contracts.specs.Store.{are_once, is_among}
 use Rattle.node_memory.specs.Nodes.{copy_of}
 use Rattle.node_memory.specs.Sound.{IsSound}
-use Rattle.coherent_memory.specs.Fine.{IsFine}
+use Rattle.coherent_memory.specs.SystemInvariants.{IsFine}
 use Rattle.coherent_memory.specs.Systems.{System}
 use Rattle.coherent_memory.specs.Turns.{Turn, begun}
 

@@ -4,7 +4,7 @@ use Rattle.memory_contracts.specs.Store.{StoreView}
 use Rattle.coherent_memory.specs.FabricViews.{system_of}
 use Rattle.coherent_memory.specs.Stores.{Shape, store_of}
 use Rattle.coherent_memory.specs.Systems.{System}
-use Rattle.coherent_memory.specs.Wholes.{shape_of}
+use Rattle.coherent_memory.specs.MemoryInvariants.{shape_of}
 use Rattle.coherent_memory.specs.declared.memory.CoherentMemory.{CoherentMemory}
 
 abbrev pub memory_of : {C : Type 0} {b : _} → (C → CarrierView) → CoherentMemory C b → System

@@ -1,8 +1,8 @@
 -- Why a home that has room for a message can also serve what waits for its line.
 use Rattle.std.specs.Prelude.{◌≡◌, ℕ, suc, ◌+◌, ◌*◌, ◌<◌, ◌≤◌, true, All, List, ◌++◌, length}
-use Rattle.memory_contracts.specs.Said.{Letter}
+use Rattle.memory_contracts.specs.Letters.{Letter}
 use Rattle.directory.specs.Homes.{HomeView, Post, Serves, home_after, most_outgoing}
-use Rattle.coherent_memory.specs.Fine.{IsFine}
+use Rattle.coherent_memory.specs.SystemInvariants.{IsFine}
 use Rattle.coherent_memory.specs.Systems.{System}
 
 -- more is to be sent, all of it about one line

@@ -1,6 +1,6 @@
 -- One message on its way, or none.
 use Rattle.std.specs.Prelude.{◌≡◌, ℕ, Bool, true, false, None, Some}
-use Rattle.memory_contracts.specs.Said.{Mail}
+use Rattle.memory_contracts.specs.Letters.{Mail}
 use Rattle.memory_contracts.specs.declared.message.Message.{Message}
 use Rattle.coherent_memory.specs.Systems.{System}
 use Rattle.coherent_memory.specs.Turns.{IsSaying, is_refused, next_mail, next_post, posted, without_mail, without_post}

@@ -6,7 +6,7 @@ use Rattle.memory_contracts.specs.Protocol.Content.{current}
 use Rattle.memory_contracts.specs.Protocol.Events.{is_to_home}
 use Rattle.memory_contracts.specs.Protocol.Lines.{Cell, LineState, all_mailed, cell, stance}
 use Rattle.memory_contracts.specs.Protocol.Messages.{Message}
-use Rattle.memory_contracts.specs.Said.{Letter, Mail, said}
+use Rattle.memory_contracts.specs.Letters.{Letter, Mail, said}
 use Rattle.directory.specs.Homes.{HomeView, Post}
 use Rattle.node_memory.specs.Nodes.{NodeView, awaits, copy_of}
 

@@ -5,7 +5,7 @@ use Rattle.rsim_base.specs.declared.memory.Line.{Line}
 use Rattle.rsim_base.specs.declared.memory.Node.{Node}
 use Rattle.memory_contracts.specs.Carrier.{CarrierTicks, CarrierView, Flight, after_send, class_of, is_full, next_for}
 use Rattle.memory_contracts.specs.Protocol.Events.{is_to_home}
-use Rattle.memory_contracts.specs.Said.{Mail, letter_of, said, told}
+use Rattle.memory_contracts.specs.Letters.{Mail, letter_of, said, told}
 use Rattle.memory_contracts.specs.Updates.{with_at}
 use Rattle.memory_contracts.specs.declared.message.Message.{Message}
 use Rattle.directory.specs.Homes.{HomeView, Serves, first_outgoing, has_room, home_after, mail_of}

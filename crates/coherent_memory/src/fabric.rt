@@ -2,27 +2,28 @@
 ghost use Rattle.std.specs.Prelude.{◌≡◌, ℕ, ◌+◌, ◌*◌, ◌%◌, ◌<◌, ◌≤◌, [], ◌++◌, List, length, true, IfOk};
 ghost use Rattle.arrayvec.specs.ArrayVec.{array_vec_len};
 ghost use Rattle.rsim_base.specs.Bytes.{count_of};
+ghost use Rattle.rsim_base.specs.Limits.{max_processors};
 ghost use Rattle.machine_config.specs.Allowed.{IsAllowed};
 ghost use Rattle.memory_contracts.specs.Bags.{no_flights};
 ghost use Rattle.memory_contracts.specs.Protocol.Events.{is_to_home};
-ghost use Rattle.memory_contracts.specs.Said.{said};
+ghost use Rattle.memory_contracts.specs.Letters.{said};
 ghost use Rattle.directory.specs.Homes.{HomeView, Serves};
 ghost use Rattle.cache_levels.specs.Levels.{near, owned};
 ghost use Rattle.node_memory.specs.Nodes.{after_read, after_wish, after_write, line_at, read_of, takes_wish};
 ghost use Rattle.node_memory.specs.Sound.{AreBefore};
 ghost use Rattle.coherent_memory.specs.Fabrics.{system_with};
-ghost use Rattle.coherent_memory.specs.Fine.{HasKept, IsFine};
+ghost use Rattle.coherent_memory.specs.SystemInvariants.{HasKept, IsFine};
 ghost use Rattle.coherent_memory.specs.HomeRows.{home_count};
 ghost use Rattle.coherent_memory.specs.NodeRows.{node_count};
 ghost use Rattle.coherent_memory.specs.Systems.{is_kept};
 
 use crate::homes::Homes;
-use crate::laws::{nodes_keep_lines, rooms_suffice, steps_keep_lines, turns_tell};
+use crate::laws;
 use crate::nodes::Nodes;
 use elf64_load::Image;
 use machine_config::Config;
-use memory_contracts::{Carrier, Class, LostList, Message, lines_stay_coherent};
-use node_memory::tables_follow;
+use memory_contracts::{Carrier, Class, LostList, Message, laws as protocol_laws};
+use node_memory::laws as node_laws;
 use rsim_base::{Addr, Line, NoMemory, Node, Size};
 use std::alloc::Global;
 
@@ -36,7 +37,7 @@ pub struct Fabric<C: Carrier> {
     ghost home_count: { home_count homes ≡ count },
     ghost node_count: { node_count nodes ≡ count },
     ghost carried: { (C.meaning carrier).nodes ≡ count },
-    ghost few: { count ≤ 16 },
+    ghost few: { count ≤ max_processors },
     ghost fine: { ∥ IsFine count (system_with homes nodes (C.meaning carrier)) ∥₁ },
 }
 
@@ -60,7 +61,7 @@ impl<C: Carrier + Drop> Fabric<C> {
         ensures count { IfOk result (λ made. made.count ≡ config.now.processors) }
         ensures ticks { IfOk result (λ made. (system_of C.meaning made).carrier.ticks ≡ 0) }
     {
-        lines_stay_coherent();
+        protocol_laws::lines_stay_coherent();
         Ok(Fabric {
             count: config.processors,
             homes: Homes::make(alloc, image, config)?,
@@ -86,7 +87,7 @@ impl<C: Carrier> Fabric<C> {
         ensures lost { lost.new.items ≡ lost.old.items ++ lost_at_begin p.0 now (system_of C.meaning self.old) }
         ensures count { self.new.count ≡ self.old.count }
     {
-        nodes_keep_lines();
+        laws::nodes_keep_lines();
         self.nodes.begin(p, now, lost);
     }
 
@@ -100,9 +101,9 @@ impl<C: Carrier> Fabric<C> {
         if !self.has_room(p) {
             return;
         }
-        steps_keep_lines();
-        nodes_keep_lines();
-        rooms_suffice();
+        laws::steps_keep_lines();
+        laws::nodes_keep_lines();
+        laws::rooms_suffice();
         let Some(m) = self.carrier.take(p) else {
             return;
         };
@@ -130,7 +131,7 @@ impl<C: Carrier> Fabric<C> {
         ensures served { (home : HomeView) × ServesAll line.0 now ((system_of C.meaning self.old).homes p.0) home × (system_of C.meaning self.new ≡ with_home p.0 home (system_of C.meaning self.old)) }
         ensures count { self.new.count ≡ self.old.count }
     {
-        rooms_suffice();
+        laws::rooms_suffice();
         while self.serve_one(p, line, now) {}
     }
 
@@ -142,7 +143,7 @@ impl<C: Carrier> Fabric<C> {
         ensures served { (home : HomeView) × Serves line.0 now ((system_of C.meaning self.old).homes p.0) home result × (system_of C.meaning self.new ≡ with_home p.0 home (system_of C.meaning self.old)) }
         ensures count { self.new.count ≡ self.old.count }
     {
-        steps_keep_lines();
+        laws::steps_keep_lines();
         self.homes.serve(p, line, now)
     }
 
@@ -161,7 +162,7 @@ impl<C: Carrier> Fabric<C> {
         ensures sent { PostsOne p.0 now (system_of C.meaning self.old) (system_of C.meaning self.new) result }
         ensures count { self.new.count ≡ self.old.count }
     {
-        steps_keep_lines();
+        laws::steps_keep_lines();
         let Some((to, m)) = self.homes.outgoing(p, now) else {
             return false;
         };
@@ -187,7 +188,7 @@ impl<C: Carrier> Fabric<C> {
         ensures sent { MailsOne p.0 (system_of C.meaning self.old) (system_of C.meaning self.new) result }
         ensures count { self.new.count ≡ self.old.count }
     {
-        steps_keep_lines();
+        laws::steps_keep_lines();
         let Some((to, m)) = self.nodes.outbox(p) else {
             return false;
         };
@@ -207,7 +208,7 @@ impl<C: Carrier> Fabric<C> {
         ensures kept { ∥ HasKept self.old.count (system_of C.meaning self.old) (system_of C.meaning self.new) ∥₁ }
         ensures count { self.new.count ≡ self.old.count }
     {
-        turns_tell();
+        laws::turns_tell();
         self.begin(p, now, lost);
         self.receive(p, now, lost);
         self.send_posts(p, now);
@@ -223,7 +224,7 @@ impl<C: Carrier> Fabric<C> {
         ensures kept { ∥ HasKept self.old.count (system_of C.meaning self.old) (system_of C.meaning self.new) ∥₁ }
         ensures count { self.new.count ≡ self.old.count }
     {
-        turns_tell();
+        laws::turns_tell();
         for p in 0..self.count {
             self.turn(Node(p as u8), now, lost);
         }
@@ -239,8 +240,8 @@ impl<C: Carrier> Fabric<C> {
         ensures kept { ∥ HasKept self.old.count (system_of C.meaning self.old) (system_of C.meaning self.new) ∥₁ }
         ensures count { self.new.count ≡ self.old.count }
     {
-        steps_keep_lines();
-        nodes_keep_lines();
+        laws::steps_keep_lines();
+        laws::nodes_keep_lines();
         lost.clear();
         self.turns(now, lost);
         self.carrier.tick();
@@ -255,8 +256,8 @@ impl<C: Carrier> Fabric<C> {
         ensures kept { ∥ HasKept self.old.count (system_of C.meaning self.old) (system_of C.meaning self.new) ∥₁ }
         ensures count { self.new.count ≡ self.old.count }
     {
-        tables_follow();
-        steps_keep_lines();
+        node_laws::tables_follow();
+        laws::steps_keep_lines();
         self.nodes.read(p, a, n)
     }
 
@@ -268,7 +269,7 @@ impl<C: Carrier> Fabric<C> {
         ensures after { system_of C.meaning self.new ≡ with_node p.0 (after_write a.0 n v ((system_of C.meaning self.old).nodes p.0)) (system_of C.meaning self.old) }
         ensures count { self.new.count ≡ self.old.count }
     {
-        nodes_keep_lines();
+        laws::nodes_keep_lines();
         self.nodes.write(p, a, n, v)
     }
 
@@ -281,8 +282,8 @@ impl<C: Carrier> Fabric<C> {
         ensures kept { ∥ HasKept self.old.count (system_of C.meaning self.old) (system_of C.meaning self.new) ∥₁ }
         ensures count { self.new.count ≡ self.old.count }
     {
-        tables_follow();
-        steps_keep_lines();
+        node_laws::tables_follow();
+        laws::steps_keep_lines();
         self.nodes.wish(p, line, own)
     }
 

@@ -1,7 +1,7 @@
 // The homes of all nodes.
 ghost use Rattle.std.specs.Prelude.{◌≡◌, ℕ, ◌+◌, ◌<◌, ◌≤◌, drop, length, option_map, true, IfOk, IfSome, OnSome};
 ghost use Rattle.machine_config.specs.Allowed.{IsAllowed};
-ghost use Rattle.memory_contracts.specs.Said.{letter_of, told};
+ghost use Rattle.memory_contracts.specs.Letters.{letter_of, told};
 ghost use Rattle.memory_contracts.specs.Updates.{with_at};
 ghost use Rattle.directory.specs.Homes.{HomeView, Serves, first_outgoing, has_room, home_after, mail_of, most_outgoing};
 ghost use Rattle.directory.specs.Start.{IsStart};

@@ -4,9 +4,9 @@ ghost use Rattle.coherent_memory.specs.Lost.{TurnTells, TurnsTell};
 ghost use Rattle.coherent_memory.specs.Rooms.{RoomStays, ServingGrows, ServingShortens, StartGrows, TakingGrows};
 ghost use Rattle.coherent_memory.specs.Laws.{BeginKeeps, CarryingKeeps, GrantsAwaited, HomeTakesKeeps, MailKeeps, NearAfterRead, NearAfterWrite, NodeTakesKeeps, NothingKeeps, PostKeeps, ServingKeeps, TurnKeeps, WritingKeeps};
 
-use cache_sets::{lines_are_apart, look_ups_follow};
-use memory_contracts::lines_stay_coherent;
-use node_memory::tables_follow;
+use cache_sets::laws as set_laws;
+use memory_contracts::laws as protocol_laws;
+use node_memory::laws as node_laws;
 
 /// Every step keeps each line coherent; only a write changes the content of a line, its own.
 pub fn steps_keep_lines()
@@ -18,7 +18,7 @@ pub fn steps_keep_lines()
     ensures nothing { NothingKeeps }
     ensures awaited { GrantsAwaited }
 {
-    lines_stay_coherent();
+    protocol_laws::lines_stay_coherent();
 }
 
 /// So do those of a node.
@@ -27,8 +27,8 @@ pub fn nodes_keep_lines()
     ensures begin { BeginKeeps }
     ensures write { WritingKeeps }
 {
-    lines_stay_coherent();
-    tables_follow();
+    protocol_laws::lines_stay_coherent();
+    node_laws::tables_follow();
 }
 
 /// A home that has room for a message has room for what it sends, and for what it sends to those that waited.
@@ -39,7 +39,7 @@ pub fn rooms_suffice()
     ensures room { RoomStays }
     ensures shorter { ServingShortens }
 {
-    lines_stay_coherent();
+    protocol_laws::lines_stay_coherent();
 }
 
 /// A turn keeps every line coherent, and tells the lines that leave its node, each once.
@@ -50,7 +50,7 @@ pub fn turns_tell()
 {
     steps_keep_lines();
     nodes_keep_lines();
-    tables_follow();
+    node_laws::tables_follow();
 }
 
 /// Reading and writing leave what is near.
@@ -58,6 +58,6 @@ pub fn nearness_stays()
     ensures read { NearAfterRead }
     ensures write { NearAfterWrite }
 {
-    lines_are_apart();
-    look_ups_follow();
+    set_laws::lines_are_apart();
+    set_laws::look_ups_follow();
 }

@@ -3,7 +3,7 @@
 
 mod fabric;
 mod homes;
-mod laws;
+pub mod laws;
 mod memory;
 mod nodes;
 

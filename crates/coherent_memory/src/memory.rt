@@ -7,14 +7,15 @@ ghost use Rattle.memory_contracts.specs.Start.{IsStart};
 ghost use Rattle.memory_contracts.specs.Store.{IsSound};
 ghost use Rattle.coherent_memory.specs.Stores.{store_of};
 ghost use Rattle.coherent_memory.specs.Fabrics.{system_with};
-ghost use Rattle.coherent_memory.specs.Wholes.{IsWhole, shape_of};
+ghost use Rattle.coherent_memory.specs.MemoryInvariants.{IsWhole, shape_of};
 
 use crate::fabric::Fabric;
-use crate::laws::{nearness_stays, nodes_keep_lines};
+use crate::laws;
+use cache_levels::laws as level_laws;
 use elf64_load::{Image, Span};
 use machine_config::Config;
-use memory_contracts::{Carrier, CoherentStore, LostList, lines_stay_coherent};
-use node_memory::tables_follow;
+use memory_contracts::{Carrier, CoherentStore, LostList, laws as protocol_laws};
+use node_memory::laws as node_laws;
 use rsim_base::{Addr, Line, NoMemory, Node, Size};
 use std::alloc::Global;
 
@@ -51,8 +52,8 @@ impl<C: Carrier + Drop> CoherentMemory<C> {
         ensures start { IfOk result (λ made. IsStart image.now config.now (store_in C.meaning made)) }
         ensures bytes { IfOk result (λ made. (a : ℕ) → (store_in C.meaning made).bytes a < 256) }
     {
-        lines_stay_coherent();
-        tables_follow();
+        protocol_laws::lines_stay_coherent();
+        node_laws::tables_follow();
         let fabric = Fabric::make(alloc, image, config, carrier)?;
         let Ok(spans) = Vec::from_slice(alloc, image.spans()) else {
             return Err(NoMemory);
@@ -74,24 +75,24 @@ impl<C: Carrier> CoherentStore for CoherentMemory<C> {
     ghost meaning = { λ s. store_in C.meaning s };
 
     fn read(&mut self, p: Node, a: Addr, n: Size) -> Option<u64> {
-        lines_stay_coherent();
-        nearness_stays();
-        tables_follow();
+        protocol_laws::lines_stay_coherent();
+        laws::nearness_stays();
+        node_laws::tables_follow();
         self.fabric.read(p, a, n)
     }
 
     fn write(&mut self, p: Node, a: Addr, n: Size, v: u64) -> bool {
-        lines_stay_coherent();
-        nearness_stays();
-        nodes_keep_lines();
-        tables_follow();
-        cache_levels::written_bytes_read_back();
+        protocol_laws::lines_stay_coherent();
+        laws::nearness_stays();
+        laws::nodes_keep_lines();
+        node_laws::tables_follow();
+        level_laws::written_bytes_read_back();
         self.fabric.write(p, a, n, v)
     }
 
     fn wish(&mut self, p: Node, line: Line, own: bool) -> bool {
-        lines_stay_coherent();
-        tables_follow();
+        protocol_laws::lines_stay_coherent();
+        node_laws::tables_follow();
         self.fabric.wish(p, line, own)
     }
 
@@ -109,8 +110,8 @@ impl<C: Carrier> CoherentStore for CoherentMemory<C> {
         ensures ticks { Ticks (store_in C.meaning self.old) (store_in C.meaning self.new) lost.new.items }
         ensures exactly { HasTicked (store_in C.meaning self.old).nodes (store_in C.meaning self.old).ticks (memory_of C.meaning self.old) (memory_of C.meaning self.new) lost.new.items }
     {
-        lines_stay_coherent();
-        tables_follow();
+        protocol_laws::lines_stay_coherent();
+        node_laws::tables_follow();
         self.fabric.tick(u64::from(self.ticks), lost);
         self.ticks += 1;
     }

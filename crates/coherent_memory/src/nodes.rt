@@ -3,7 +3,7 @@ ghost use Rattle.std.specs.Prelude.{◌≡◌, ℕ, ◌%◌, ◌<◌, ◌++◌, 
 ghost use Rattle.arrayvec.specs.ArrayVec.{array_vec_len};
 ghost use Rattle.rsim_base.specs.Bytes.{count_of};
 ghost use Rattle.machine_config.specs.Allowed.{IsAllowed};
-ghost use Rattle.memory_contracts.specs.Said.{letter_of, said, told};
+ghost use Rattle.memory_contracts.specs.Letters.{letter_of, said, told};
 ghost use Rattle.memory_contracts.specs.Updates.{with_at};
 ghost use Rattle.cache_levels.specs.Levels.{near, owned};
 ghost use Rattle.node_memory.specs.Nodes.{after_read, after_wish, after_write, awaits, empty_node, has_room, left_from, line_at, read_of, takes_wish, without_first_mail};

@@ -1,7 +1,6 @@
 pub mod Examples
 pub mod Held
 pub mod Lex
-pub mod Numbers
 pub mod Programs
 pub mod Reader
 pub mod Refused

@@ -3,8 +3,9 @@
 -- `rsim` has four names, of the executable, the configuration, the bound on the cycles and the order; with one seed it has
 -- the last three. `rsimcheck` has two, of the executable and the order; with one seed it has the last.
 use Rattle.std.specs.Prelude.{ℕ, Bool, ◌&&◌, nat_le, if◌then◌else◌, List, [], ◌∷◌, length, Option, Some, None, Result, Ok, Err}
-use Rattle.std.specs.Str.{all_ascii_digits}
 use Rattle.std.specs.Str.Parse.{digits_value}
+use Rattle.rsim_base.specs.Decimals.{is_number}
+use Rattle.rsim_base.specs.Limits.{max_steps}
 use Rattle.command_words.specs.declared.fault.WordsFault.{WordsFault}
 use Rattle.command_words.specs.declared.fault.WordsFault.TheVariants.{Shape, Seed, Cycles}
 use Rattle.command_words.specs.Words.{Text, Said, said}
@@ -48,10 +49,6 @@ check_shape_of (Some s) = check_shape s.names s.seeds
 
 -- ---- numbers
 
--- one to ten decimal digits
-abbrev pub is_number : Text → Bool
-is_number word = nat_le 1 (length word) && nat_le (length word) 10 && all_ascii_digits word
-
 -- the number from `least` to `most` that a word gives
 unfoldable pub number_from : ℕ → ℕ → Text → Option ℕ
 number_from least most word =
@@ -61,7 +58,7 @@ abbrev pub seed_of : Text → Option ℕ
 seed_of = number_from 0 4294967295
 
 abbrev pub cycles_of : Text → Option ℕ
-cycles_of = number_from 1 8000000
+cycles_of = number_from 1 max_steps
 
 -- ---- what is asked
 

@@ -6,8 +6,6 @@ mod fault;
 mod parse;
 mod read;
 mod shape;
-#[cfg(test)]
-mod tests;
 
 pub use fault::{BadWords, WordsFault};
 pub use read::{CheckWords, Executable, RunWords, read_check, read_run};

@@ -1,16 +1,15 @@
 // What the words ask for, with their numbers read.
 ghost use Rattle.std.specs.Prelude.{◌≡◌, map, string_bytes};
-ghost use Rattle.std.specs.Str.{all_ascii_digits};
-ghost use Rattle.command_words.specs.Asked.{asked_of_run, asked_of_check, executable_from, is_number, number_from};
+ghost use Rattle.command_words.specs.Asked.{asked_of_run, asked_of_check, executable_from, number_from};
 
 use crate::fault::{BadWords, WordsFault};
 use crate::shape::{Origin, check_texts, run_texts};
+use rsim_base::MAX_STEPS;
+use rsim_base::digits::decimal;
 use std::alloc::Global;
 
-// The greatest seed, and the greatest bound on the cycles of a run.
+// The greatest seed.
 const MAX_SEED: u32 = u32::MAX;
-
-const MAX_CYCLES: u32 = 8_000_000;
 
 /// Where the executable comes from.
 #[derive(Clone, Copy, Debug, PartialEq, Eq)]
@@ -54,7 +53,7 @@ pub fn read_run<'a>(alloc: Global, words: &'a [String]) -> Result<RunWords<'a>, 
 {
     let texts = run_texts(alloc, words)?;
     let executable = executable_from(texts.executable).map_err(BadWords::Fault)?;
-    let Some(cycles) = number(texts.cycles, 1, MAX_CYCLES) else {
+    let Some(cycles) = number(texts.cycles, 1, MAX_STEPS) else {
         return Err(BadWords::Fault(WordsFault::Cycles));
     };
     Ok(RunWords {
@@ -103,28 +102,9 @@ fn executable_from<'a>(origin: Origin<'a>) -> Result<Executable<'a>, WordsFault>
 fn number(word: &str, least: u32, most: u32) -> Option<u32>
     ensures { result ≡ number_from least most word.now }
 {
-    if !is_number(word) {
-        return None;
-    }
-    // Ten digits fit 64 bits.
-    let Ok(number) = word.parse::<u64>() else {
-        return None;
-    };
+    let number = decimal(word.as_bytes())?;
     if number < u64::from(least) || number > u64::from(most) {
         return None;
     }
     Some(number as u32)
-}
-
-// Whether a word has one to ten decimal digits and nothing else.
-fn is_number(word: &str) -> bool
-    ensures { result ≡ is_number word.now }
-{
-    !word.is_empty() && word.len() <= 10 && has_only_digits(word.as_bytes())
-}
-
-fn has_only_digits(word: &[u8]) -> bool
-    ensures { result ≡ all_ascii_digits word.now }
-{
-    word.iter().all(|b| b.is_ascii_digit())
 }

@@ -23,7 +23,7 @@ use Rattle.sparc_meaning.specs.Run.{accesses_of}
 use Rattle.sparc_meaning.specs.Step.{step}
 use Rattle.sparc_meaning.specs.StepReads.{step_reads, step_aligned, step_found, step_sized}
 use Rattle.sparc_meaning.specs.Wants.{wanted}
-use Rattle.cycle_loop.specs.Kept.{HasNumbers}
+use Rattle.sparc_meaning.specs.Accesses.{HasNumbers}
 use Rattle.cycle_loop.specs.Machine.{bytes_after, next_step, value_found}
 use Rattle.cycle_loop.specs.Stands.{IsTold}
 use Rattle.cycle_loop.proofs.Explained.{byte_in_memory}

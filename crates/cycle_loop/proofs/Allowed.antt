@@ -8,6 +8,9 @@ use Rattle.elf64_load.specs.Image.{ImageView, is_readable, is_writable}
 use Rattle.sparc_decode.specs.declared.instr.Instr.{Instr}
 use Rattle.sparc_decode.specs.declared.instr.Op.{Op}
 use Rattle.sparc_decode.specs.declared.instr.Op.TheVariants as op
+use Rattle.sparc_decode.specs.declared.kinds.FormKind.{FormKind}
+use Rattle.sparc_decode.specs.declared.kinds.FormKind.TheVariants as kinds
+use Rattle.sparc_decode.specs.Kinds.{kind}
 use Rattle.sparc_alu.specs.Accesses.{extended}
 use Rattle.sparc_alu.specs.declared.arithmetic.AluOut.{AluOut}
 use Rattle.sparc_alu.specs.declared.arithmetic.DivisionByZero.{DivisionByZero}
@@ -18,7 +21,7 @@ use Rattle.sparc_meaning.specs.declared.arch.ArchPhase.{ArchPhase}
 use Rattle.sparc_meaning.specs.declared.arch.ArchPhase.TheVariants.{Run, Spill, Fill}
 use Rattle.sparc_meaning.specs.Arch.{register, register_of, with_register, with_register_of}
 use Rattle.sparc_meaning.specs.Forms as form
-use Rattle.sparc_meaning.specs.Forms.{executed, kind}
+use Rattle.sparc_meaning.specs.Forms.{executed}
 use Rattle.sparc_meaning.specs.Step.{step, in_phase, of_instr, instr_at}
 use Rattle.sparc_meaning.specs.Stepped.{Stepped, accessed, goes_on, service, trapped}
 use Rattle.sparc_meaning.specs.Windows.{spills_first, fills_first, spill, fill, spilled, filled, slot, slot_register, after_spill, after_fill}
@@ -84,32 +87,32 @@ written_does : (image : ImageView) (may : Bool) (result : Result AluOut Division
 written_does image may (Ok out) i s = quiet image may _ Nothing tt refl
 written_does image may (Err fault) i s = quiet image may _ Ended tt refl
 
-abbrev is_storing : form.Kind → Bool
-is_storing (form.stores n) = true
+abbrev is_storing : FormKind → Bool
+is_storing (kinds.Stores n) = true
 is_storing _ = false
 
-executed_does : (k : form.Kind) (image : ImageView) (i : Instr) (s : Arch) (value : ℕ) → Does image (is_storing k) (executed k image i s value)
+executed_does : (k : FormKind) (image : ImageView) (i : Instr) (s : Arch) (value : ℕ) → Does image (is_storing k) (executed k image i s value)
 unfolding executed
-executed_does (form.loads n) image i s value = load_does false n image i s value
-executed_does (form.stores n) image i s value = store_does n image i s
-executed_does form.load_stores_byte image i s value = exchange_does false B1 (form.total i s) 0xFF image i s value
-executed_does form.swaps image i s value = exchange_does false B4 (form.total i s) (low_bytes B4 (register s i.rd)) image i s value
-executed_does (form.compares_and_swaps n) image i s value = exchange_does false n (form.first i s) (form.kept_or_swapped n i s value) image i s value
-executed_does form.jumps image i s value = either image false (form.total i s % 4 == 0) _ _ (quiet image false _ Nothing tt refl) (quiet image false _ Ended tt refl)
-executed_does form.returns image i s value = either image false (form.total i s % 4 == 0) _ _ (quiet image false _ Nothing tt refl) (quiet image false _ Ended tt refl)
-executed_does form.traps_if_taken image i s value = either image false (form.is_taken i s) _ _ (service_does image false (form.total i s % 128) s) (quiet image false _ Nothing tt refl)
-executed_does form.computes image i s value = written_does image false _ i s
-executed_does form.traps image i s value = quiet image false _ Ended tt refl
-executed_does form.fences image i s value = quiet image false _ (Fence _) tt refl
-executed_does form.branches_on_codes image i s value = quiet image false _ Nothing tt refl
-executed_does form.branches_on_register image i s value = quiet image false _ Nothing tt refl
-executed_does form.calls image i s value = quiet image false _ Nothing tt refl
-executed_does form.moves image i s value = quiet image false _ Nothing tt refl
-executed_does form.sets_high image i s value = quiet image false _ Nothing tt refl
-executed_does form.reads_pc image i s value = quiet image false _ Nothing tt refl
-executed_does form.does_nothing image i s value = quiet image false _ Nothing tt refl
-executed_does form.saves image i s value = quiet image false _ Nothing tt refl
-executed_does form.restores image i s value = quiet image false _ Nothing tt refl
+executed_does (kinds.Loads n) image i s value = load_does false n image i s value
+executed_does (kinds.Stores n) image i s value = store_does n image i s
+executed_does kinds.LoadsAndStoresByte image i s value = exchange_does false B1 (form.total i s) 0xFF image i s value
+executed_does kinds.Swaps image i s value = exchange_does false B4 (form.total i s) (low_bytes B4 (register s i.rd)) image i s value
+executed_does (kinds.ComparesAndSwaps n) image i s value = exchange_does false n (form.first i s) (form.kept_or_swapped n i s value) image i s value
+executed_does kinds.Jumps image i s value = either image false (form.total i s % 4 == 0) _ _ (quiet image false _ Nothing tt refl) (quiet image false _ Ended tt refl)
+executed_does kinds.Returns image i s value = either image false (form.total i s % 4 == 0) _ _ (quiet image false _ Nothing tt refl) (quiet image false _ Ended tt refl)
+executed_does kinds.TrapsIfTaken image i s value = either image false (form.is_taken i s) _ _ (service_does image false (form.total i s % 128) s) (quiet image false _ Nothing tt refl)
+executed_does kinds.Computes image i s value = written_does image false _ i s
+executed_does kinds.Traps image i s value = quiet image false _ Ended tt refl
+executed_does kinds.Fences image i s value = quiet image false _ (Fence _) tt refl
+executed_does kinds.BranchesOnCodes image i s value = quiet image false _ Nothing tt refl
+executed_does kinds.BranchesOnRegister image i s value = quiet image false _ Nothing tt refl
+executed_does kinds.Calls image i s value = quiet image false _ Nothing tt refl
+executed_does kinds.Moves image i s value = quiet image false _ Nothing tt refl
+executed_does kinds.SetsHigh image i s value = quiet image false _ Nothing tt refl
+executed_does kinds.ReadsPc image i s value = quiet image false _ Nothing tt refl
+executed_does kinds.DoesNothing image i s value = quiet image false _ Nothing tt refl
+executed_does kinds.Saves image i s value = quiet image false _ Nothing tt refl
+executed_does kinds.Restores image i s value = quiet image false _ Nothing tt refl
 
 fill_does : (may : Bool) (k : ℕ) (image : ImageView) (s : Arch) (value : ℕ) → Does image may (fill k image s value)
 fill_does may k image s value =
@@ -127,26 +130,22 @@ spill_does k image s =
 weaker : (image : ImageView) (may less : Bool) (x : Stepped) → (may ≡ false → less ≡ false) → Does image less x → Does image may x
 weaker image may less x fewer does = record { allowed = does.allowed; stores = λ no. does.stores (fewer no) }
 
-storing_by : (o : Op) → may_store_by o ≡ false → is_storing (kind o) ≡ false
-unfolding kind may_store_by
-storing_by op.Stb off = absurd cc
-storing_by op.Sth off = absurd cc
-storing_by op.Stw off = absurd cc
-storing_by op.Stx off = absurd cc
+storing_by : (k : FormKind) → may_store_by k ≡ false → is_storing k ≡ false
+storing_by (kinds.Stores n) off = absurd cc
 storing_by _ off = refl
 
-spilling_by : (o : Op) (s : Arch) → spills_first o s ≡ true → may_store_by o ≡ true
-unfolding spills_first may_store_by
+spilling_by : (o : Op) (s : Arch) → spills_first o s ≡ true → may_store_by (kind o) ≡ true
+unfolding spills_first kind
 spilling_by op.Save s due = refl
 spilling_by op.Flushw s due = refl
 spilling_by _ s due = absurd cc
 
-of_instr_does : (i : Instr) (image : ImageView) (s : Arch) (value : ℕ) → Does image (may_store_by i.op) (of_instr i image s value)
+of_instr_does : (i : Instr) (image : ImageView) (s : Arch) (value : ℕ) → Does image (may_store_by (kind i.op)) (of_instr i image s value)
 of_instr_does i image s value =
-    chosen image (may_store_by i.op) (spills_first i.op s) (spill 0 image s) _
-    (λ due. weaker image (may_store_by i.op) true (spill 0 image s) (λ no. sym (spilling_by i.op s due) ∙ no) (spill_does 0 image s))
-    (λ no. either image (may_store_by i.op) (fills_first i.op s) (fill 0 image s value) _ (fill_does (may_store_by i.op) 0 image s value)
-    (weaker image (may_store_by i.op) (is_storing (kind i.op)) (executed (kind i.op) image i s value) (storing_by i.op) (executed_does (kind i.op) image i s value)))
+    chosen image (may_store_by (kind i.op)) (spills_first i.op s) (spill 0 image s) _
+    (λ due. weaker image (may_store_by (kind i.op)) true (spill 0 image s) (λ no. sym (spilling_by i.op s due) ∙ no) (spill_does 0 image s))
+    (λ no. either image (may_store_by (kind i.op)) (fills_first i.op s) (fill 0 image s value) _ (fill_does (may_store_by (kind i.op)) 0 image s value)
+    (weaker image (may_store_by (kind i.op)) (is_storing (kind i.op)) (executed (kind i.op) image i s value) (storing_by (kind i.op)) (executed_does (kind i.op) image i s value)))
 
 in_phase_does : (phase : ArchPhase) (image : ImageView) (s : Arch) (value : ℕ) → Does image (may_store phase (instr_at image s.pc).op) (in_phase phase image s value)
 in_phase_does Run image s value = of_instr_does (instr_at image s.pc) image s value

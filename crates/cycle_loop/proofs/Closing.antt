@@ -14,7 +14,8 @@ use Rattle.cycle_loop.specs.Machine.{CoreView, MachineView}
 use Rattle.cycle_loop.specs.Stands.{Closed, IsRunOf, Stands, loaded_values, order_so_far}
 use Rattle.cycle_loop.proofs.Cycling.{AreRetired-taken, TakesFirst, few_taken, order_so_far-taken}
 use Rattle.cycle_loop.proofs.Listing.{IsListed}
-use Rattle.cycle_loop.proofs.Places.{Some-injective, slice_get_mapped, slice_get_unmapped}
+use Rattle.list_facts.specs.Places.{slice_get_mapped, slice_get_unmapped}
+use Rattle.list_facts.specs.Options.{Some-injective}
 use Rattle.cycle_loop.proofs.Turning.{IsRunOf-listed}
 
 -- ---- choices

@@ -16,10 +16,12 @@ use Rattle.sparc_meaning.specs.Stepped.{Stepped}
 use Rattle.sparc_meaning.specs.declared.acts.Act.{Act}
 use Rattle.sparc_meaning.specs.declared.acts.Act.TheVariants.{Nothing, Load, Store, Atomic, Fence, Out, End as Ended}
 use Rattle.cycle_loop.specs.Answers.{all_retired}
-use Rattle.cycle_loop.specs.Kept.{AreSound, HasNumbers, HaveNumbers, IsKept}
+use Rattle.cycle_loop.specs.Ranges.{AreSound, HaveNumbers, IsKept}
+use Rattle.sparc_meaning.specs.Accesses.{HasNumbers}
+use Rattle.sparc_meaning.specs.Runs.{accesses_of-few}
 use Rattle.cycle_loop.specs.Machine.{At, CoreCycle, CoreView, MachineView, Turned, after_step, bytes_after, core_after, lacks_line, next_step, turn, turns, with_taken}
 use Rattle.cycle_loop.specs.Stands.{Stands, order_so_far}
-use Rattle.cycle_loop.proofs.Places.{length_more, slice_get-append_left, slice_get_middle}
+use Rattle.list_facts.specs.Places.{length_more, slice_get-append_left, slice_get_middle}
 use Rattle.cycle_loop.proofs.Turning.{Stand, Stand-stepped}
 
 -- ---- accesses put into the log
@@ -105,15 +107,6 @@ turns_stand image model v taken p done (c ∷ cs) log bytes place sound numbers 
         (λ sound_k numbers_k. turn_stands image model taken done c cs log bytes b (λ e. runs_where image v p c bytes (is ∙ e)) sound_k numbers_k stand) sound numbers
 
 -- ---- no more accesses than steps
-
-accesses_of-few : (p i : ℕ) (act : Act) → length (accesses_of p i act) ≤ 1
-accesses_of-few p i (Load addr n loaded) = omega arith
-accesses_of-few p i (Store addr n value) = omega arith
-accesses_of-few p i (Atomic addr n loaded value) = omega arith
-accesses_of-few p i Nothing = omega arith
-accesses_of-few p i (Fence mask) = omega arith
-accesses_of-few p i (Out spoken) = omega arith
-accesses_of-few p i Ended = omega arith
 
 turn_by-few : (b : Bool) (p : ℕ) (s : Stepped) (x : At) → length (turn_by b p s x).log + x.core.retired ≤ length x.log + (turn_by b p s x).core.retired
 turn_by-few false p s x = omega arith

@@ -11,8 +11,8 @@ use Rattle.order_checker.specs.Faults.{writes, byte_from}
 use Rattle.order_checker.specs.Firsts.{last}
 use Rattle.order_checker.specs.Values.{MayRead, IsSource, ExplainsByte, Explains, loaded_byte, stored_byte}
 use Rattle.order_checker.specs.Walking.{written_byte}
-use Rattle.cycle_loop.proofs.LastOnes.{IsLast, last_cases}
-use Rattle.cycle_loop.proofs.Places.{slice_get-append_left, slice_get_more}
+use Rattle.order_checker.specs.Lasts.{IsLast, last_cases}
+use Rattle.list_facts.specs.Places.{slice_get-append_left, slice_get_more}
 
 -- addresses are below 2^64
 pub record AreInMemory (order : List Access) : Type 0 where

@@ -11,14 +11,14 @@ use Rattle.cycle_loop.specs.Stands.{Closed, Stands}
 use Rattle.cycle_loop.specs.declared.processor.Processor.{Processor}
 use Rattle.cycle_loop.proofs.Closing.{Closed-taken}
 use Rattle.cycle_loop.proofs.Cycling.{Stands-cycle, Stands-taken}
-use Rattle.cycle_loop.proofs.Places.{length_more, slice_get_more}
+use Rattle.list_facts.specs.Places.{length_more, slice_get_more}
 use Rattle.rsim_base.specs.declared.memory.Line.{Line}
 use Rattle.rsim_base.specs.declared.memory.Node.{Node}
 use Rattle.elf64_load.specs.Image.{ImageView}
 use Rattle.machine_config.specs.declared.config.Config.{Config}
 use Rattle.memory_contracts.specs.Store.{StoreView, Ticks}
 use Rattle.order_log.specs.Log.{Place, after_pop, first_final}
-use Rattle.cycle_loop.specs.Kept.{AreSound, HaveNumbers}
+use Rattle.cycle_loop.specs.Ranges.{AreSound, HaveNumbers}
 use Rattle.cycle_loop.specs.Machine.{CoreCycle, CoreView, MachineView, Turned, turns}
 use Rattle.cycle_loop.specs.Machines.{Serves}
 use Rattle.cycle_loop.specs.Ready.{AreCounted, IsCounted, IsReady, views_of}

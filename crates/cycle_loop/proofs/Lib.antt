@@ -4,14 +4,11 @@ pub mod Closing
 pub mod Cycling
 pub mod Explained
 pub mod Keeping
-pub mod LastOnes
 pub mod Listing
 pub mod Looping
 pub mod Mapped
 pub mod Parting
-pub mod Places
 pub mod Runs
-pub mod Sizes
 pub mod Starting
 pub mod Turning
 pub mod Waiting

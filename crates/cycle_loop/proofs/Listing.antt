@@ -5,7 +5,7 @@ use Rattle.rsim_base.specs.Made.{Made}
 use Rattle.rsim_base.specs.declared.memory.Access.{Access}
 use Rattle.rsim_base.specs.declared.memory.Model.{Model}
 use Rattle.order_axioms.specs.Axioms.{needs}
-use Rattle.cycle_loop.proofs.Places.{slice_get-append_left, slice_get_last, slice_get_more}
+use Rattle.list_facts.specs.Places.{slice_get-append_left, slice_get_last, slice_get_more}
 
 -- the order has each access of the program once, in places that keep the model
 pub record IsListed (model : Model) (order : List Access) (p : ℕ) (accesses : List Made) : Type 0 where

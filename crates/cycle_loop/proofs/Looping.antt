@@ -9,13 +9,14 @@ use Rattle.elf64_load.specs.Image.{ImageView}
 use Rattle.memory_contracts.specs.Store.{StoreView}
 use Rattle.order_log.specs.Log.{Place}
 use Rattle.sparc_meaning.specs.Arch.{IsSound, is_running}
-use Rattle.cycle_loop.specs.Kept.{AreSound, HaveNumbers}
+use Rattle.cycle_loop.specs.Ranges.{AreSound, HaveNumbers}
 use Rattle.cycle_loop.specs.Machine.{At, CoreView, Turned, next_step, turn, turns}
 use Rattle.cycle_loop.specs.Processors.{view_of}
 use Rattle.cycle_loop.specs.Ready.{AreCounted, HaveRoom, IsCounted, views_of}
 use Rattle.cycle_loop.specs.declared.processor.Processor.{Processor}
 use Rattle.cycle_loop.proofs.Cycling.{turn_by}
-use Rattle.cycle_loop.proofs.Places.{Some-injective, slice_get_unmapped}
+use Rattle.list_facts.specs.Places.{slice_get_unmapped}
+use Rattle.list_facts.specs.Options.{Some-injective}
 use Rattle.cycle_loop.proofs.Waiting.{lacks_same}
 
 -- ---- lists

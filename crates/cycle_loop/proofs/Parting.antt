@@ -1,5 +1,5 @@
 -- A turn by its parts.
-use Rattle.std.proofs.Common.{◌≡◌, ◌++◌, ◌&&◌, not, ℕ, Bool, true, false, if◌then◌else◌, List, [], ◌∷◌, map, refl, sym, ap, subst, ◌∙◌, ◌⊎◌, inl, inr, ⊎_elim, arith}
+use Rattle.std.proofs.Common.{◌≡◌, ◌++◌, ◌&&◌, not, ℕ, Bool, true, false, if◌then◌else◌, List, [], ◌∷◌, map, Option, None, Some, IfSome, option_to_list, refl, sym, ap, subst, ◌∙◌, ◌⊎◌, inl, inr, ⊎_elim, arith}
 use Rattle.std.proofs.lemmas.List.{append-nil}
 use Rattle.rsim_base.specs.declared.memory.Access.{Access}
 use Rattle.rsim_base.specs.declared.memory.Kind.TheVariants as kind
@@ -16,14 +16,15 @@ use Rattle.sparc_meaning.specs.Run.{accesses_of}
 use Rattle.sparc_meaning.specs.Step.{step}
 use Rattle.sparc_meaning.specs.StepReads.{step_reads}
 use Rattle.sparc_meaning.specs.Stepped.{Stepped}
-use Rattle.cycle_loop.specs.Kept.{HasNumbers, HaveNumbers, IsInMemory}
+use Rattle.sparc_meaning.specs.Accesses.{HasNumbers, access_of}
+use Rattle.cycle_loop.specs.Ranges.{HaveNumbers}
 use Rattle.cycle_loop.specs.Lines.{IsActMapped, IsWantMapped, wants_line}
 use Rattle.cycle_loop.specs.Machine.{At, CoreView, after_step, lacks_line, next_step, turn, value_found}
 use Rattle.cycle_loop.specs.Stores.{is_store}
 use Rattle.cycle_loop.specs.Turns.{tried}
 use Rattle.cycle_loop.proofs.Allowed.{step_allowed}
 use Rattle.cycle_loop.proofs.Mapped.{allowed-mapped}
-use Rattle.cycle_loop.proofs.Places.{slice_get_more}
+use Rattle.list_facts.specs.Places.{slice_get_more}
 
 -- ---- lines
 
@@ -87,32 +88,12 @@ turn_tried_on image v p x s runs is = sym (turn_tried image v p x runs ∙ ap (�
 
 -- ---- what is put at the end of the log
 
-numbers_of : (p i : ℕ) (act : Act) → IsInMemory act → (e : Access) → (accesses_of p i act ≡ e ∷ []) → HasNumbers e
-numbers_of p i (Load addr n loaded) is e one = let same : record { node = record { 0 = p }; index = i; kind = kind.Load; addr = addr; size = n; loaded = loaded; stored = 0 } ≡ e = cc in subst HasNumbers same (record { addr = is; stored = omega arith })
-numbers_of p i (Store addr n value) is e one = let same : record { node = record { 0 = p }; index = i; kind = kind.Store; addr = addr; size = n; loaded = 0; stored = value } ≡ e = cc in subst HasNumbers same (record { addr = is.0; stored = is.1 })
-numbers_of p i (Atomic addr n loaded value) is e one = let same : record { node = record { 0 = p }; index = i; kind = kind.Atomic; addr = addr; size = n; loaded = loaded; stored = value } ≡ e = cc in subst HasNumbers same (record { addr = is.0; stored = is.1 })
-numbers_of p i Nothing is e one = absurd cc
-numbers_of p i (Fence mask) is e one = absurd cc
-numbers_of p i (Out spoken) is e one = absurd cc
-numbers_of p i Ended is e one = absurd cc
+numbers_with : (log : List Place) (made : Option Access) → IfSome made HasNumbers → HaveNumbers log → HaveNumbers (log ++ map (λ a. placed a true) (option_to_list made))
+numbers_with log None has all = subst HaveNumbers (sym (append-nil log)) all
+numbers_with log (Some e) has all = λ j x at. ⊎_elim (all j x) (λ last. subst (λ (y : Place). HasNumbers y.access) (sym last.1) has) (slice_get_more log (placed e true) j x at)
 
-numbers_by : (log : List Place) (made : List Access) → ((made ≡ []) ⊎ ((e : Access) × (made ≡ e ∷ []))) → ((e : Access) → made ≡ e ∷ [] → HasNumbers e) → HaveNumbers log → HaveNumbers (log ++ map (λ a. placed a true) made)
-numbers_by log made (inl none) has all = subst (λ (xs : List Access). HaveNumbers (log ++ map (λ a. placed a true) xs)) (sym none) (subst HaveNumbers (sym (append-nil log)) all)
-numbers_by log made (inr (e, one)) has all =
-    subst (λ (xs : List Access). HaveNumbers (log ++ map (λ a. placed a true) xs)) (sym one)
-    (λ j x at. ⊎_elim (all j x) (λ last. subst (λ (y : Place). HasNumbers y.access) (sym last.1) (has e one)) (slice_get_more log (placed e true) j x at))
-
-one_or_none : (p i : ℕ) (act : Act) → (accesses_of p i act ≡ []) ⊎ ((e : Access) × (accesses_of p i act ≡ e ∷ []))
-one_or_none p i (Load addr n loaded) = inr (_, refl)
-one_or_none p i (Store addr n value) = inr (_, refl)
-one_or_none p i (Atomic addr n loaded value) = inr (_, refl)
-one_or_none p i Nothing = inl refl
-one_or_none p i (Fence mask) = inl refl
-one_or_none p i (Out spoken) = inl refl
-one_or_none p i Ended = inl refl
-
-pub HaveNumbers-more : (p i : ℕ) (act : Act) (log new : List Place) → IsInMemory act → new ≡ log ++ map (λ a. placed a true) (accesses_of p i act) → HaveNumbers log → HaveNumbers new
-HaveNumbers-more p i act log new is same all = subst HaveNumbers (sym same) (numbers_by log (accesses_of p i act) (one_or_none p i act) (numbers_of p i act is) all)
+pub HaveNumbers-more : (p i : ℕ) (act : Act) (log new : List Place) → IfSome (access_of p i act) HasNumbers → new ≡ log ++ map (λ a. placed a true) (accesses_of p i act) → HaveNumbers log → HaveNumbers new
+HaveNumbers-more p i act log new is same all = subst HaveNumbers (sym same) (numbers_with log (access_of p i act) is all)
 
 -- ---- over a store that was asked for lines
 

@@ -13,13 +13,13 @@ use Rattle.sparc_meaning.specs.Arch.{IsSound, is_running}
 use Rattle.sparc_meaning.specs.Run.{accesses_of, after, made_after, output_of}
 use Rattle.sparc_meaning.specs.Step.{step}
 use Rattle.sparc_meaning.specs.Wants.{wanted}
-use Rattle.cycle_loop.specs.Kept.{HasNumbers}
+use Rattle.sparc_meaning.specs.Accesses.{HasNumbers}
 use Rattle.cycle_loop.specs.Machine.{CoreView, bytes_after, core_after, next_step, value_found}
 use Rattle.cycle_loop.specs.Stands.{IsRunOf, IsTold}
 use Rattle.cycle_loop.proofs.Adding.{Adds, IsMemory, adds, next_step-act}
 use Rattle.cycle_loop.proofs.Explained.{explains_more}
 use Rattle.cycle_loop.proofs.Listing.{IsListed, IsListed-earlier, IsListed-more, IsListed-other}
-use Rattle.cycle_loop.proofs.Places.{length-changed, length-middle, slice_get_changed, slice_get_middle, slice_get_more}
+use Rattle.list_facts.specs.Places.{length-changed, length-middle, slice_get_changed, slice_get_middle, slice_get_more}
 use Rattle.cycle_loop.proofs.Runs.{run_on, stepped_on, value_of}
 use Rattle.cycle_loop.proofs.Written.{written_more}
 

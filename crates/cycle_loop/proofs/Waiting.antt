@@ -18,7 +18,7 @@ use Rattle.cycle_loop.specs.Lines.{wants_line}
 use Rattle.cycle_loop.specs.Machine.{At, CoreCycle, CoreView, MachineView, lacks_line, next_step, turn, turns, value_found}
 use Rattle.cycle_loop.specs.Waits.{StepsOrWaits}
 use Rattle.cycle_loop.proofs.Cycling.{turn_by}
-use Rattle.cycle_loop.proofs.Places.{Some-injective}
+use Rattle.list_facts.specs.Options.{Some-injective}
 
 -- ---- whether a line is lacking goes by the step alone
 

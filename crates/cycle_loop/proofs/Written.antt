@@ -13,7 +13,7 @@ use Rattle.order_checker.specs.Faults.{writes, byte_from}
 use Rattle.order_checker.specs.Firsts.{last}
 use Rattle.order_checker.specs.Values.{stored_byte}
 use Rattle.order_checker.specs.Walking.{written_byte}
-use Rattle.cycle_loop.proofs.Places.{slice_get_last, slice_get-append_front, length_more}
+use Rattle.list_facts.specs.Places.{slice_get_last, slice_get-append_front, length_more}
 
 -- ---- what all accesses of an order have written
 

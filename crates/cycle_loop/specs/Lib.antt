@@ -1,11 +1,11 @@
 pub mod Answers
 pub mod Decoded
-pub mod Kept
 pub mod Lines
 pub mod Machine
 pub mod MachineOf
 pub mod Machines
 pub mod Processors
+pub mod Ranges
 pub mod Ready
 pub mod Stands
 pub mod Start

@@ -1,24 +1,26 @@
 -- The machine as its rules see it: processors that make one step at a time over a store of lines, and the order of their
 -- accesses.
 use Rattle.std.specs.Prelude.{◌≡◌, ℕ, suc, ◌+◌, Bool, true, false, not, ◌&&◌, if◌then◌else◌, List, [], ◌∷◌, ◌++◌, map, length}
+use Rattle.rsim_base.specs.Accesses.{stores}
 use Rattle.rsim_base.specs.Bytes.{count_of}
 use Rattle.rsim_base.specs.Made.{Made}
 use Rattle.rsim_base.specs.declared.memory.Access.{Access}
 use Rattle.rsim_base.specs.declared.memory.Line.{Line}
 use Rattle.rsim_base.specs.declared.memory.Node.{Node}
 use Rattle.elf64_load.specs.Image.{ImageView}
+use Rattle.sparc_meaning.specs.Accesses.{by_access}
 use Rattle.sparc_meaning.specs.Arch.{is_running}
 use Rattle.sparc_meaning.specs.Run.{accesses_of, output_of}
 use Rattle.sparc_meaning.specs.Step.{step}
 use Rattle.sparc_meaning.specs.Stepped.{Stepped}
 use Rattle.sparc_meaning.specs.Wants.{wanted}
 use Rattle.sparc_meaning.specs.declared.acts.Act.{Act}
-use Rattle.sparc_meaning.specs.declared.acts.Act.TheVariants.{Nothing, Load, Store, Atomic, Fence, Out, End as Ended}
 use Rattle.sparc_meaning.specs.declared.acts.Want.{Want}
 use Rattle.sparc_meaning.specs.declared.acts.Want.TheVariants as want
 use Rattle.sparc_meaning.specs.declared.arch.Arch.{Arch}
 use Rattle.memory_contracts.specs.Store.{StoreView, Ticks, line_at, stored, value_at}
 use Rattle.order_log.specs.Log.{Place, placed}
+use Rattle.cycle_loop.specs.Lines.{lacks}
 
 pub record CoreView : Type 0 where
   pub arch : Arch
@@ -54,24 +56,13 @@ value_found bytes want.Ended = 0
 abbrev pub next_step : ImageView → (ℕ → ℕ) → Arch → Stepped
 next_step image bytes arch = step image arch (value_found bytes (wanted image arch))
 
--- A load needs its line near, a store needs it owned, and an atomic both.
+-- the access of a step lacks its line
 abbrev pub lacks_line : StoreView → ℕ → Act → Bool
-lacks_line v p (Load addr n loaded) = not (v.near p (line_at v addr.0))
-lacks_line v p (Store addr n value) = not (v.owned p (line_at v addr.0))
-lacks_line v p (Atomic addr n loaded value) = not (v.near p (line_at v addr.0) && v.owned p (line_at v addr.0))
-lacks_line v p Nothing = false
-lacks_line v p (Fence mask) = false
-lacks_line v p (Out spoken) = false
-lacks_line v p Ended = false
+lacks_line v p act = by_access false (λ a. lacks v p (line_at v a.addr.0) a.kind) act
 
+-- memory after a step
 abbrev pub bytes_after : Act → (ℕ → ℕ) → ℕ → ℕ
-bytes_after (Store addr n value) bytes = stored bytes addr.0 (count_of n) value
-bytes_after (Atomic addr n loaded value) bytes = stored bytes addr.0 (count_of n) value
-bytes_after (Load addr n loaded) bytes = bytes
-bytes_after Nothing bytes = bytes
-bytes_after (Fence mask) bytes = bytes
-bytes_after (Out spoken) bytes = bytes
-bytes_after Ended bytes = bytes
+bytes_after act bytes = by_access bytes (λ a. if stores a.kind then stored bytes a.addr.0 (count_of a.size) a.stored else bytes) act
 
 -- processor p after this step
 abbrev pub core_after : ℕ → Stepped → CoreView → CoreView

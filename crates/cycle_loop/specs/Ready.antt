@@ -3,13 +3,14 @@ use Rattle.std.specs.Prelude.{◌≡◌, ℕ, ◌+◌, ◌<◌, ◌≤◌, List,
 use Rattle.std.specs.Coded.{Unit-prop, le_prop}
 use Rattle.std.proofs.Math.Bool.{Bool-set}
 use Rattle.std.proofs.Math.Nat.{ℕ_set}
+use Rattle.rsim_base.specs.Limits.{max_processors}
 use Rattle.sparc_meaning.specs.Arch.{IsPhase, IsSound}
 use Rattle.sparc_meaning.specs.declared.arch.Arch.{Arch}
 use Rattle.sparc_meaning.specs.declared.arch.ArchPhase.{ArchPhase}
 use Rattle.sparc_meaning.specs.declared.arch.ArchPhase.TheVariants.{Run, Spill, Fill}
 use Rattle.elf64_load.specs.Image.{ImageView, is_mapped}
 use Rattle.memory_contracts.specs.Store.{StoreView}
-use Rattle.cycle_loop.specs.Kept.{IsKept}
+use Rattle.cycle_loop.specs.Ranges.{IsKept}
 use Rattle.cycle_loop.specs.Machine.{CoreView, MachineView}
 use Rattle.cycle_loop.specs.Processors.{view_of}
 use Rattle.cycle_loop.specs.declared.processor.Processor.{Processor}
@@ -33,7 +34,7 @@ HaveRoom processors = (p : ℕ) (c : Processor) → slice_get processors p ≡ S
 -- the cycles.
 pub record IsReady (image : ImageView) (line_bytes : ℕ) (m : MachineView) : Type 0 where
   pub nodes : m.store.nodes ≡ length m.cores
-  pub most : length m.cores ≤ 16
+  pub most : length m.cores ≤ max_processors
   pub mapped : m.store.mapped ≡ is_mapped image
   pub line : line_bytes ≡ m.store.line_bytes
   pub some : 0 < line_bytes
@@ -44,7 +45,7 @@ pub record IsReady (image : ImageView) (line_bytes : ℕ) (m : MachineView) : Ty
 -- a store that all processors may use
 pub record MayUseAll (image : ImageView) (v : StoreView) (line_bytes n : ℕ) : Type 0 where
   pub nodes : v.nodes ≡ n
-  pub most : n ≤ 16
+  pub most : n ≤ max_processors
   pub mapped : v.mapped ≡ is_mapped image
   pub line : line_bytes ≡ v.line_bytes
   pub some : 0 < line_bytes

@@ -5,8 +5,6 @@ mod decoded;
 mod lines;
 mod machine;
 mod processor;
-#[cfg(test)]
-mod tests;
 mod turn;
 mod turns;
 

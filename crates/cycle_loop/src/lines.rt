@@ -3,50 +3,29 @@ ghost use Rattle.std.specs.Prelude.{◌≡◌, ◌≢◌, ◌<◌, false, not};
 ghost use Rattle.memory_contracts.specs.Store.{line_at, AreMapped, IsLineMapped};
 ghost use Rattle.rsim_base.specs.Bytes.{count_of};
 ghost use Rattle.sparc_meaning.specs.Acts.{IsAligned, IsAlignedWant};
-ghost use Rattle.cycle_loop.specs.Lines.{lacks, owns, wants_line, IsActMapped, IsWantMapped};
+ghost use Rattle.cycle_loop.specs.Lines.{lacks, wants_line, IsActMapped, IsWantMapped};
 ghost use Rattle.cycle_loop.specs.Machine.{bytes_after, lacks_line, value_found};
 
 use memory_contracts::CoherentStore;
-use rsim_base::{Addr, Line, Node, line_of};
+use rsim_base::{Addr, Kind, Line, Node, line_of};
 use sparc_meaning::{Act, Want};
 
-/// What a processor needs a line for.
-#[derive(Clone, Copy, Debug, PartialEq, Eq)]
-pub(crate) enum Purpose {
-    Load,
-    Store,
-    /// It loads and stores at once.
-    Exchange,
-}
-
-impl Purpose {
-    // Whether the line must be owned.
-    fn owns(self) -> bool
-        ensures { result ≡ owns self }
-    {
-        match self {
-            Purpose::Load => false,
-            Purpose::Store | Purpose::Exchange => true,
-        }
-    }
-}
-
-fn has_line<M: CoherentStore>(p: Node, line: Line, purpose: Purpose, store: &M) -> bool
+fn has_line<M: CoherentStore>(p: Node, line: Line, kind: Kind, store: &M) -> bool
     requires node { p.0 < (M.meaning store.now).nodes }
-    ensures { result ≡ not (lacks (M.meaning store.now) p.0 line.0 purpose) }
+    ensures { result ≡ not (lacks (M.meaning store.now) p.0 line.0 kind) }
 {
-    match purpose {
-        Purpose::Load => store.is_near(p, line),
-        Purpose::Store => store.is_owned(p, line),
-        Purpose::Exchange => store.is_near(p, line) && store.is_owned(p, line),
+    match kind {
+        Kind::Load => store.is_near(p, line),
+        Kind::Store => store.is_owned(p, line),
+        Kind::Atomic => store.is_near(p, line) && store.is_owned(p, line),
     }
 }
 
-// Whether the processor lacks the line of an address. It asks for one that it lacks.
+// Whether the processor lacks the line of an address for an access of a kind. It asks for one that it lacks.
 fn lacks_or_asks<M: CoherentStore>(
     p: Node,
     a: Addr,
-    purpose: Purpose,
+    kind: Kind,
     line_bytes: u64,
     store: &mut M,
 ) -> bool
@@ -54,15 +33,15 @@ fn lacks_or_asks<M: CoherentStore>(
     requires line { line_bytes ≡ (M.meaning store.old).line_bytes }
     requires some { line_bytes ≢ 0 }
     requires mapped { IsLineMapped (M.meaning store.old) (line_at (M.meaning store.old) a.0) }
-    ensures value { result ≡ lacks (M.meaning store.old) p.0 (line_at (M.meaning store.old) a.0) purpose }
+    ensures value { result ≡ lacks (M.meaning store.old) p.0 (line_at (M.meaning store.old) a.0) kind }
     ensures store { M.meaning store.new ≡ record (M.meaning store.old) { wishes = (M.meaning store.new).wishes } }
 {
     let line = line_of(a, line_bytes);
-    if has_line(p, line, purpose, store) {
+    if has_line(p, line, kind, store) {
         return false;
     }
     // A wish that is not taken is made again in the next cycle.
-    let _taken = store.wish(p, line, purpose.owns());
+    let _taken = store.wish(p, line, kind.stores());
     true
 }
 
@@ -82,8 +61,8 @@ pub(crate) fn lacks_wanted<M: CoherentStore>(
     ensures store { M.meaning store.new ≡ record (M.meaning store.old) { wishes = (M.meaning store.new).wishes } }
 {
     match want {
-        Want::Load(a, _) => lacks_or_asks(p, a, Purpose::Load, line_bytes, store),
-        Want::Atomic(a, _) => lacks_or_asks(p, a, Purpose::Exchange, line_bytes, store),
+        Want::Load(a, _) => lacks_or_asks(p, a, Kind::Load, line_bytes, store),
+        Want::Atomic(a, _) => lacks_or_asks(p, a, Kind::Atomic, line_bytes, store),
         Want::None | Want::Ended => false,
     }
 }
@@ -103,9 +82,9 @@ pub(crate) fn lacks_stored<M: CoherentStore>(
     ensures store { M.meaning store.new ≡ record (M.meaning store.old) { wishes = (M.meaning store.new).wishes } }
 {
     match act {
-        Act::Load(a, _, _) => lacks_or_asks(p, a, Purpose::Load, line_bytes, store),
-        Act::Store(a, _, _) => lacks_or_asks(p, a, Purpose::Store, line_bytes, store),
-        Act::Atomic(a, _, _, _) => lacks_or_asks(p, a, Purpose::Exchange, line_bytes, store),
+        Act::Load(a, _, _) => lacks_or_asks(p, a, Kind::Load, line_bytes, store),
+        Act::Store(a, _, _) => lacks_or_asks(p, a, Kind::Store, line_bytes, store),
+        Act::Atomic(a, _, _, _) => lacks_or_asks(p, a, Kind::Atomic, line_bytes, store),
         Act::Nothing | Act::Fence(_) | Act::Out(_) | Act::End => false,
     }
 }

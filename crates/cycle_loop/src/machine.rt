@@ -1,6 +1,7 @@
 // The machine: its processors, the store that they share, and the order of their accesses.
 ghost use Rattle.std.specs.Prelude.{◌≡◌, ◌+◌, ◌<◌, ◌≤◌, ◌++◌, ◌∷◌, ℕ, not, true, false, List, [], length, IfOk, OnOk, OnErr, IfSome};
 ghost use Rattle.std.specs.List.{list_all};
+ghost use Rattle.rsim_base.specs.Limits.{max_processors, max_steps};
 ghost use Rattle.sparc_meaning.specs.Arch.{is_running};
 ghost use Rattle.machine_config.specs.Allowed.{IsAllowed};
 ghost use Rattle.order_log.specs.Log.{after_pop, first_final};
@@ -8,7 +9,7 @@ ghost use Rattle.rsim_base.specs.declared.memory.Access.{Access};
 ghost use Rattle.rsim_base.specs.declared.memory.Model.{Model as Consistency};
 ghost use Rattle.cycle_loop.specs.Machine.{CoreCycle, CoreView, with_taken};
 ghost use Rattle.cycle_loop.specs.Machines.{Serves, machine_view};
-ghost use Rattle.cycle_loop.specs.Kept.{AreSound};
+ghost use Rattle.cycle_loop.specs.Ranges.{AreSound};
 ghost use Rattle.cycle_loop.specs.Ready.{AreCounted, IsReady, IsReady-prop, views_of};
 ghost use Rattle.cycle_loop.specs.Stands.{Closed, Stands};
 ghost use Rattle.cycle_loop.specs.Start.{AreBooted, IsAtStart};
@@ -51,7 +52,7 @@ impl<M: CoherentStore> Machine<M> {
     /// # Errors
     /// Where memory is short. Then nothing changes.
     pub fn cycle(&mut self) -> Result<(), NoMemory>
-        requires few { self.old.cycles < 8000000 }
+        requires few { self.old.cycles < max_steps }
         requires open { self.old.closed ≡ false }
         ensures cycle { OnOk result (CoreCycle self.old.image (view_of M.meaning self.old) (view_of M.meaning self.new)) }
         ensures refused { OnErr result (view_of M.meaning self.new ≡ view_of M.meaning self.old) }
@@ -194,7 +195,7 @@ impl<M: CoherentStore + Drop> Machine<M> {
 
 // So many processors before their first steps.
 fn boot_all(alloc: Global, image: &Image, count: u8) -> Result<Vec<Processor>, NoMemory>
-    requires { count ≤ 16 }
+    requires { count ≤ max_processors }
     ensures count { IfOk result (λ all. length (views_of all.items) ≡ count) }
     ensures first { IfOk result (λ all. AreBooted image.now count (views_of all.items)) }
     ensures sound { IfOk result (λ all. AreSound (views_of all.items)) }

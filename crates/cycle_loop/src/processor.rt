@@ -1,9 +1,10 @@
 // A processor that makes its steps in the order of its program.
-ghost use Rattle.std.specs.Prelude.{◌≡◌, ◌+◌, ◌<◌, ◌≤◌, ◌++◌, ◌∷◌, [], true, map, length, decimal, MatchOption, OnOk, vec_len, vec_capacity};
+ghost use Rattle.std.specs.Prelude.{◌≡◌, ◌+◌, ◌<◌, ◌≤◌, ◌++◌, ◌∷◌, [], true, map, length, decimal, IfSome, OnOk, vec_len, vec_capacity};
+ghost use Rattle.rsim_base.specs.Limits.{max_steps};
 ghost use Rattle.order_log.specs.Log.{placed};
 ghost use Rattle.sparc_meaning.specs.Arch.{IsSound};
 ghost use Rattle.sparc_meaning.specs.Run.{accesses_of, output_of};
-ghost use Rattle.cycle_loop.specs.Kept.{IsInMemory};
+ghost use Rattle.sparc_meaning.specs.Accesses.{access_of, HasNumbers};
 ghost use Rattle.cycle_loop.specs.Machine.{core_after};
 ghost use Rattle.cycle_loop.specs.Processors.{view_of};
 ghost use Rattle.cycle_loop.specs.Start.{booted};
@@ -11,7 +12,7 @@ ghost use Rattle.cycle_loop.specs.Start.{booted};
 use elf64_load::Image;
 use itoa::Buffer;
 use order_log::OrderLog;
-use rsim_base::{Access, Kind, NoMemory, Node};
+use rsim_base::{NoMemory, Node};
 use sparc_meaning::{Act, Arch, Spoken, boot};
 use std::alloc::Global;
 
@@ -31,7 +32,6 @@ impl Processor {
     /// Processor `p` of so many, before its first step.
     pub(crate) fn boot(alloc: Global, image: &Image, p: Node, processors: u8) -> Processor
         requires among { p.0 < processors }
-        requires most { processors ≤ 64 }
         ensures view { view_of result ≡ booted image.now processors p.0 }
         ensures sound { IsSound result.arch }
     {
@@ -57,14 +57,14 @@ impl Processor {
     /// Retires the step that has led to its state, and puts the access of the step at the end of the order.
     pub(crate) fn retire(&mut self, p: Node, act: Act, log: &mut OrderLog)
         requires room { vec_len self.old.output + 21 ≤ vec_capacity self.old.output }
-        requires few { self.old.retired < 8000000 }
+        requires few { self.old.retired < max_steps }
         requires fewer { self.old.accesses ≤ self.old.retired }
         requires place { 0 < log.old.spare }
         ensures view { view_of self.new ≡ core_after p.0 (record { state = self.old.arch; act = act }) (view_of self.old) }
         ensures log { log.new.places ≡ log.old.places ++ map (λ a. placed a true) (accesses_of p.0 self.old.accesses act) }
         ensures spare { log.old.spare ≤ log.new.spare + 1 }
         ensures fewer { self.new.accesses ≤ self.new.retired }
-        ensures numbers { IsInMemory act }
+        ensures numbers { IfSome (access_of p.0 self.old.accesses act) HasNumbers }
     {
         self.accesses += list(p, self.accesses, act, log);
         put(&mut self.output, act);
@@ -79,9 +79,9 @@ fn list(p: Node, index: u32, act: Act, log: &mut OrderLog) -> u32
     ensures spare { log.old.spare ≤ log.new.spare + 1 }
     ensures count { result ≡ length (accesses_of p.0 index act) }
     ensures most { result ≤ 1 }
-    ensures numbers { IsInMemory act }
+    ensures numbers { IfSome (access_of p.0 index act) HasNumbers }
 {
-    match access_of(p, index, act) {
+    match act.access(p, index) {
         // It is performed and retired at once, so its place is that of a store which is retired already.
         Some(access) => {
             log.close(&access);
@@ -89,28 +89,6 @@ fn list(p: Node, index: u32, act: Act, log: &mut OrderLog) -> u32
         }
         None => 0,
     }
-}
-
-// The access that a step makes, if it makes one. The value that its kind lacks is 0.
-fn access_of(p: Node, index: u32, act: Act) -> Option<Access>
-    ensures made { MatchOption result (accesses_of p.0 index act ≡ []) (λ a. accesses_of p.0 index act ≡ a ∷ []) }
-    ensures numbers { IsInMemory act }
-{
-    let (kind, addr, size, loaded, stored) = match act {
-        Act::Load(addr, size, loaded) => (Kind::Load, addr, size, loaded, 0),
-        Act::Store(addr, size, stored) => (Kind::Store, addr, size, 0, stored),
-        Act::Atomic(addr, size, loaded, stored) => (Kind::Atomic, addr, size, loaded, stored),
-        Act::Nothing | Act::Fence(_) | Act::Out(_) | Act::End => return None,
-    };
-    Some(Access {
-        node: p,
-        kind,
-        size,
-        index,
-        addr,
-        loaded,
-        stored,
-    })
 }
 
 // Puts what a step says behind the output.

@@ -1,10 +1,11 @@
 // The turn of a processor: one step, unless it has ended or lacks a line.
 ghost use Rattle.std.specs.Prelude.{◌≡◌, ◌+◌, ◌<◌, ◌≤◌, false, IsTrue, vec_len, vec_capacity};
+ghost use Rattle.rsim_base.specs.Limits.{max_steps};
 ghost use Rattle.elf64_load.specs.Image.{is_mapped};
 ghost use Rattle.sparc_decode.specs.Ranges.{IsInRange};
 ghost use Rattle.sparc_meaning.specs.Arch.{is_running, IsSound};
 ghost use Rattle.sparc_meaning.specs.Step.{step as step_of, instr_at as spec_instr_at};
-ghost use Rattle.cycle_loop.specs.Kept.{HaveNumbers};
+ghost use Rattle.cycle_loop.specs.Ranges.{HaveNumbers};
 ghost use Rattle.cycle_loop.specs.Machine.{At, after_step, lacks_line, turn as turn_of};
 ghost use Rattle.cycle_loop.specs.Processors.{view_of};
 ghost use Rattle.cycle_loop.specs.Stores.{may_store as spec_may_store, may_store_by};
@@ -17,7 +18,7 @@ use elf64_load::Image;
 use memory_contracts::CoherentStore;
 use order_log::OrderLog;
 use rsim_base::Node;
-use sparc_decode::{Instr, Op};
+use sparc_decode::{FormKind, Instr, kind};
 use sparc_meaning::{Arch, ArchPhase, peek_at, step_at};
 
 impl Processor {
@@ -34,7 +35,7 @@ impl Processor {
         requires may { MayUse image.now (M.meaning store.old) line_bytes p.0 }
         requires sound { IsSound self.old.arch }
         requires room { vec_len self.old.output + 21 ≤ vec_capacity self.old.output }
-        requires few { self.old.retired < 8000000 }
+        requires few { self.old.retired < max_steps }
         requires fewer { self.old.accesses ≤ self.old.retired }
         requires place { 0 < log.old.spare }
         ensures rule { ◌≡◌ {A = At} (record { core = view_of self.new; log = log.new.places; bytes = (M.meaning store.new).bytes }) (turn_of image.now (M.meaning store.old) p.0 (record { core = view_of self.old; log = log.old.places; bytes = (M.meaning store.old).bytes })) }
@@ -79,7 +80,7 @@ impl Processor {
         requires registers { IsInRange i.now }
         requires has { lacks_line (M.meaning store.old) p.0 (step_of image.now self.old.arch value).act ≡ false }
         requires room { vec_len self.old.output + 21 ≤ vec_capacity self.old.output }
-        requires few { self.old.retired < 8000000 }
+        requires few { self.old.retired < max_steps }
         requires fewer { self.old.accesses ≤ self.old.retired }
         requires place { 0 < log.old.spare }
         ensures rule { ◌≡◌ {A = At} (record { core = view_of self.new; log = log.new.places; bytes = (M.meaning store.new).bytes }) (after_step p.0 (step_of image.now self.old.arch value) (record { core = view_of self.old; log = log.old.places; bytes = (M.meaning store.old).bytes })) }
@@ -112,7 +113,7 @@ impl Processor {
         requires fetched { i.now ≡ spec_instr_at image.now self.old.arch.pc }
         requires registers { IsInRange i.now }
         requires room { vec_len self.old.output + 21 ≤ vec_capacity self.old.output }
-        requires few { self.old.retired < 8000000 }
+        requires few { self.old.retired < max_steps }
         requires fewer { self.old.accesses ≤ self.old.retired }
         requires place { 0 < log.old.spare }
         ensures rule { ◌≡◌ {A = At} (record { core = view_of self.new; log = log.new.places; bytes = (M.meaning store.new).bytes }) (tried (M.meaning store.old) p.0 (step_of image.now self.old.arch value) (record { core = view_of self.old; log = log.old.places; bytes = (M.meaning store.old).bytes })) }
@@ -139,19 +140,18 @@ fn may_store(arch: &Arch, i: &Instr) -> bool
     ensures { result ≡ spec_may_store arch.now.phase i.now.op }
 {
     match arch.phase {
-        ArchPhase::Run => is_storing(i.op),
+        ArchPhase::Run => is_storing(kind(i.op)),
         ArchPhase::Spill(_) => true,
         ArchPhase::Fill(_) => false,
     }
 }
 
-// The instructions that store, and those that may spill a window first.
-#[tactic(auto, unfolding(crate::specs::Stores::may_store_by))]
-fn is_storing(op: Op) -> bool
-    ensures { result ≡ may_store_by op }
+// The kinds that store, and those that may spill a window first: SAVE, and FLUSHW among those that do nothing else.
+fn is_storing(kind: FormKind) -> bool
+    ensures { result ≡ may_store_by kind }
 {
-    match op {
-        Op::Stb | Op::Sth | Op::Stw | Op::Stx | Op::Save | Op::Flushw => true,
-        _ => false,
-    }
+    matches!(
+        kind,
+        FormKind::Stores(_) | FormKind::Saves | FormKind::DoesNothing
+    )
 }

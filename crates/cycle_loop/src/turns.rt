@@ -1,6 +1,6 @@
 // The turns of all processors.
 ghost use Rattle.std.specs.Prelude.{◌≡◌, ◌+◌, ◌<◌, ◌≤◌, ℕ, OnOk, length};
-ghost use Rattle.cycle_loop.specs.Kept.{AreSound, HaveNumbers};
+ghost use Rattle.cycle_loop.specs.Ranges.{AreSound, HaveNumbers};
 ghost use Rattle.cycle_loop.specs.Machine.{Turned, turns};
 ghost use Rattle.cycle_loop.specs.Ready.{AreCounted, HaveRoom, MayUseAll, views_of};
 

@@ -9,7 +9,7 @@ use Rattle.elf64_load.specs.Image.{ImageView}
 use Rattle.memory_contracts.specs.Protocol.Lines.{HomeRecord}
 use Rattle.directory.specs.Fresh.{AreMore, IsFresh}
 use Rattle.memory_contracts.specs.Updates.{with_at}
-use Rattle.directory.specs.Kept.{has_line, records_in}
+use Rattle.directory.specs.HomeParts.{has_line, records_in}
 use Rattle.directory.specs.Start.{IsFirst}
 use Rattle.directory.specs.declared.records.Records.{Records}
 

@@ -3,12 +3,13 @@ use Rattle.std.proofs.Common.{◌≡◌, ◌≢◌, ◌⊎◌, inl, inr, ℕ, ze
 use Rattle.std.proofs.lemmas.Bool.{cases_order}
 use Rattle.std.proofs.lemmas.Grind.{get_or-set_at}
 use Rattle.std.proofs.lemmas.List.{get_or-set_other, length-replicate, length-set}
+use Rattle.rsim_base.specs.Limits.{line_room}
 use Rattle.elf64_load.specs.Image.{ImageView, byte_at}
 use Rattle.directory.specs.Start.{AreFirst}
 
 -- the first of them stand, and those behind are 0
 pub record AreFirstUpTo (image : ImageView) (line_bytes line count : ℕ) (bytes : List ℕ) : Type 0 where
-  pub size : length bytes ≡ 128
+  pub size : length bytes ≡ line_room
   pub small : (k : ℕ) → slice_index bytes k < 256
   pub image_bytes : (k : ℕ) → k < count → line * line_bytes + k < 2 ^ 64 → slice_index bytes k ≡ byte_at image (line * line_bytes + k)
   pub behind : (k : ℕ) → count ≤ k → slice_index bytes k ≡ 0
@@ -18,15 +19,15 @@ zeros zero k = refl
 zeros (suc n) zero = refl
 zeros (suc n) (suc k) = zeros n k
 
-pub first-none : (image : ImageView) (line_bytes line : ℕ) → AreFirstUpTo image line_bytes line 0 (replicate 128 0)
+pub first-none : (image : ImageView) (line_bytes line : ℕ) → AreFirstUpTo image line_bytes line 0 (replicate line_room 0)
 first-none image line_bytes line = record {
-  size = length-replicate {A = ℕ} 128 0;
-  small = λ k. subst (λ (b : ℕ). b < 256) (sym (zeros 128 k)) (omega arith);
+  size = length-replicate {A = ℕ} line_room 0;
+  small = λ k. subst (λ (b : ℕ). b < 256) (sym (zeros line_room k)) (omega arith);
   image_bytes = λ k below. absurd (omega (arith, below));
-  behind = λ k above. zeros 128 k;
+  behind = λ k above. zeros line_room k;
 }
 
-pub first-more : (image : ImageView) (line_bytes line count b : ℕ) (bytes : List ℕ) → count < 128 → b < 256 → AreFirstUpTo image line_bytes line count bytes → (line * line_bytes + count < 2 ^ 64 → b ≡ byte_at image (line * line_bytes + count)) →
+pub first-more : (image : ImageView) (line_bytes line count b : ℕ) (bytes : List ℕ) → count < line_room → b < 256 → AreFirstUpTo image line_bytes line count bytes → (line * line_bytes + count < 2 ^ 64 → b ≡ byte_at image (line * line_bytes + count)) →
     AreFirstUpTo image line_bytes line (count + 1) (set bytes count b)
 first-more image line_bytes line count b bytes few small first here =
     let size = first.size in

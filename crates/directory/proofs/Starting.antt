@@ -4,10 +4,10 @@ use Rattle.std.specs.HashMap.{get}
 use Rattle.elf64_load.specs.Image.{ImageView}
 use Rattle.memory_contracts.specs.Protocol.Lines.{HomeRecord, Phase}
 use Rattle.directory.specs.Fresh.{IsFresh}
-use Rattle.memory_contracts.specs.Said.{Letter}
-use Rattle.directory.specs.Kept.{AreFrom, AreKnown, records_in, unkept}
-use Rattle.directory.specs.Known.{AreBelow, IsKnown, owner_bound, phase_bound}
-use Rattle.directory.specs.Noted.{record_of}
+use Rattle.memory_contracts.specs.Letters.{Letter}
+use Rattle.directory.specs.HomeParts.{AreFrom, AreKnown, records_in, unkept}
+use Rattle.directory.specs.Bounds.{AreBelow, IsKnown, owner_bound, phase_bound}
+use Rattle.directory.specs.Meanings.{record_of}
 use Rattle.directory.specs.Start.{IsFirst}
 use Rattle.directory.specs.declared.line_record.LineRecord.{LineRecord}
 use Rattle.directory.specs.declared.records.Records.{Records}

@@ -6,8 +6,8 @@ use Rattle.memory_contracts.specs.Protocol.Messages.{Message, GetS, GetM, Put, I
 use Rattle.memory_contracts.specs.Protocol.Lines.{Phase, Idle, Collecting, Recalling, Granting, HomeRecord, besides, is_some_node, joined, nobody}
 use Rattle.memory_contracts.specs.Protocol.HomeTable.{HomeStep, collects, grants_owned, grants_shared, home_row, home_takes, is_mesi, is_owner, nothing, recalls, to_each, to_none, to_one, waiting}
 use Rattle.memory_contracts.specs.Updates.{with_at}
-use Rattle.directory.specs.Kept.{AreKnown}
-use Rattle.directory.specs.Known.{AreBelow, IsKnown, owner_bound, phase_bound}
+use Rattle.directory.specs.HomeParts.{AreKnown}
+use Rattle.directory.specs.Bounds.{AreBelow, IsKnown, owner_bound, phase_bound}
 
 pub record IsWithin (n : ℕ) (step : HomeStep) : Type 0 where
   pub after : IsKnown n step.after

@@ -1,7 +1,7 @@
 -- Records of lines that nobody has.
 use Rattle.std.specs.Prelude.{◌≡◌, ℕ, true}
 use Rattle.elf64_load.specs.Image.{ImageView}
-use Rattle.directory.specs.Kept.{has_line, records_in}
+use Rattle.directory.specs.HomeParts.{has_line, records_in}
 use Rattle.directory.specs.Start.{IsFirst}
 use Rattle.directory.specs.declared.records.Records.{Records}
 

@@ -1,6 +1,6 @@
 -- A home as its whole state.
 use Rattle.directory.specs.Homes.{HomeView}
-use Rattle.directory.specs.Kept.{has_line, letters_in, posts_in, records_in}
+use Rattle.directory.specs.HomeParts.{has_line, letters_in, posts_in, records_in}
 use Rattle.directory.specs.declared.home.Home.{Home}
 
 abbrev pub home_of : Home → HomeView

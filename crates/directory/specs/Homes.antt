@@ -5,7 +5,7 @@ use Rattle.machine_config.specs.declared.config.Protocol.{Protocol}
 use Rattle.memory_contracts.specs.Protocol.Messages.{Message}
 use Rattle.memory_contracts.specs.Protocol.Lines.{HomeRecord, Phase, Idle}
 use Rattle.memory_contracts.specs.Protocol.HomeTable.{home_takes}
-use Rattle.memory_contracts.specs.Said.{Letter, Mail}
+use Rattle.memory_contracts.specs.Letters.{Letter, Mail}
 use Rattle.memory_contracts.specs.Updates.{with_at}
 
 -- what the home has to say about a line, and the tick in which that was taken which it answers

@@ -1,8 +1,8 @@
 pub mod Fresh
 pub mod HomeViews
 pub mod Homes
-pub mod Kept
-pub mod Known
+pub mod HomeParts
+pub mod Bounds
 pub mod NodeSets
-pub mod Noted
+pub mod Meanings
 pub mod Start

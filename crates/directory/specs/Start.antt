@@ -1,5 +1,6 @@
 -- What a home begins with.
 use Rattle.std.specs.Prelude.{◌≡◌, ℕ, ◌+◌, ◌*◌, ◌/◌, ◌%◌, ◌^◌, ◌<◌, ◌≤◌, true, List, [], None, slice_index, length}
+use Rattle.rsim_base.specs.Limits.{line_room}
 use Rattle.elf64_load.specs.Image.{ImageView, byte_at, is_mapped}
 use Rattle.machine_config.specs.declared.config.Config.{Config}
 use Rattle.memory_contracts.specs.Protocol.Lines.{HomeRecord, Idle, nobody}
@@ -7,7 +8,7 @@ use Rattle.directory.specs.Homes.{HomeView}
 
 -- the bytes of a line: those of the image as far as there are addresses, and zeros behind the line
 pub record AreFirst (image : ImageView) (line_bytes line : ℕ) (bytes : List ℕ) : Type 0 where
-  pub size : length bytes ≡ 128
+  pub size : length bytes ≡ line_room
   pub small : (k : ℕ) → slice_index bytes k < 256
   pub image_bytes : (k : ℕ) → k < line_bytes → line * line_bytes + k < 2 ^ 64 → slice_index bytes k ≡ byte_at image (line * line_bytes + k)
   pub behind : (k : ℕ) → line_bytes ≤ k → slice_index bytes k ≡ 0

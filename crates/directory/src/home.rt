@@ -1,9 +1,10 @@
 // The home of lines.
 ghost use Rattle.std.specs.Prelude.{◌≡◌, ◌+◌, ◌<◌, ◌≤◌, ◌*◌, drop, length, nat_le, option_map, true, IfOk, IfSome, OnSome};
+ghost use Rattle.rsim_base.specs.Limits.{max_processors};
 ghost use Rattle.machine_config.specs.Allowed.{IsAllowed};
 ghost use Rattle.directory.specs.Homes.{HomeView, Serves, first_outgoing, has_room, home_after, is_idle, mail_of, most_outgoing, most_waiting};
-ghost use Rattle.directory.specs.Kept.{AreFrom, AreKnown, letters_in, records_in};
-ghost use Rattle.memory_contracts.specs.Said.{letter_of, told};
+ghost use Rattle.directory.specs.HomeParts.{AreFrom, AreKnown, letters_in, records_in};
+ghost use Rattle.memory_contracts.specs.Letters.{letter_of, told};
 ghost use Rattle.directory.specs.Start.{IsStart};
 
 use crate::outgoing::{MOST_OUTGOING, Outgoing};
@@ -29,7 +30,7 @@ pub struct Home {
     records: Records,
     waiting: Waiting,
     outgoing: Outgoing,
-    ghost few: { table.nodes ≤ 64 },
+    ghost few: { table.nodes ≤ max_processors },
     ghost known: { AreKnown table.nodes (records_in records) },
     ghost asked: { AreFrom table.nodes (letters_in waiting) },
     ghost places: { waiting.most ≡ most_waiting table.nodes },

@@ -9,8 +9,6 @@ mod records;
 mod share;
 mod step;
 mod table;
-#[cfg(test)]
-mod tests;
 mod waiting;
 mod word;
 

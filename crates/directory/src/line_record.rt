@@ -1,7 +1,7 @@
 // What a home notes of a line.
 ghost use Rattle.std.specs.Prelude.{◌≡◌};
 ghost use Rattle.directory.specs.Homes.{is_idle};
-ghost use Rattle.directory.specs.Noted.{phase_of};
+ghost use Rattle.directory.specs.Meanings.{phase_of};
 
 use crate::node_set::NodeSet;
 use crate::word::LineBytes;

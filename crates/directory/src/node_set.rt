@@ -1,13 +1,14 @@
 // Sets of nodes.
 ghost use Rattle.std.specs.Prelude.{◌≡◌, ◌<◌, ◌≤◌};
+ghost use Rattle.rsim_base.specs.Limits.{max_processors};
 ghost use Rattle.memory_contracts.specs.Protocol.Lines.{besides, is_some_node, joined, nobody};
 
-use rsim_base::Node;
+use rsim_base::{MAX_PROCESSORS, Node};
 
 /// The most nodes that a set may have.
-pub const MOST_NODES: usize = 64;
+pub const MOST_NODES: usize = MAX_PROCESSORS as usize;
 
-/// A set of nodes below 64.
+/// A set of nodes of one machine.
 #[derive(Clone, Copy)]
 pub struct NodeSet {
     has: [bool; MOST_NODES],
@@ -27,7 +28,7 @@ impl NodeSet {
 
     /// Whether node `x` is in the set.
     pub fn contains(&self, x: Node) -> bool
-        requires { x.0 < 64 }
+        requires { x.0 < max_processors }
         ensures { result ≡ set_of self.now x.0 }
     {
         self.has[x.0 as usize]
@@ -35,7 +36,7 @@ impl NodeSet {
 
     /// Puts node `x` in.
     pub fn insert(&mut self, x: Node)
-        requires { x.0 < 64 }
+        requires { x.0 < max_processors }
         ensures { set_of self.new ≡ joined x.0 (set_of self.old) }
     {
         self.has[x.0 as usize] = true;
@@ -43,7 +44,7 @@ impl NodeSet {
 
     /// Takes node `x` out.
     pub fn remove(&mut self, x: Node)
-        requires { x.0 < 64 }
+        requires { x.0 < max_processors }
         ensures { set_of self.new ≡ besides x.0 (set_of self.old) }
     {
         self.has[x.0 as usize] = false;
@@ -51,7 +52,7 @@ impl NodeSet {
 
     /// Whether one of the nodes below `nodes` is in the set.
     pub fn has_some(&self, nodes: u32) -> bool
-        requires { nodes ≤ 64 }
+        requires { nodes ≤ max_processors }
         ensures { result ≡ is_some_node nodes (set_of self.now) }
     {
         let mut some = false;

@@ -1,6 +1,7 @@
 // What a home has to send.
 ghost use Rattle.std.specs.Prelude.{◌≡◌, ℕ, ◌+◌, ◌<◌, ◌≤◌, ◌∷◌, ◌++◌, [], map, length, drop, option_map, slice_get, IfOk};
 ghost use Rattle.std.specs.VecDeque.{deque_capacity};
+ghost use Rattle.rsim_base.specs.Limits.{max_processors};
 ghost use Rattle.memory_contracts.specs.Protocol.HomeTable.{to_each};
 ghost use Rattle.memory_contracts.specs.Protocol.Messages.{Inv};
 ghost use Rattle.directory.specs.NodeSets.{set_of};
@@ -24,7 +25,7 @@ pub struct Post {
 
 impl Post {
     ghost use Rattle.directory.specs.Homes.{may_go};
-    ghost use Rattle.directory.specs.Kept.{post_of};
+    ghost use Rattle.directory.specs.HomeParts.{post_of};
 
     /// Whether it may go, where a home takes so many ticks to answer.
     pub fn may_go(&self, latency: u32, now: u64) -> bool
@@ -46,8 +47,8 @@ pub struct Outgoing {
 
 impl Outgoing {
     ghost use Rattle.directory.specs.Homes.{post_to, posts};
-    ghost use Rattle.directory.specs.Kept.{post_of, posts_in};
-    ghost use Rattle.directory.specs.Noted.{sent_of};
+    ghost use Rattle.directory.specs.HomeParts.{post_of, posts_in};
+    ghost use Rattle.directory.specs.Meanings.{sent_of};
 
     /// Nothing to be sent.
     ///
@@ -93,7 +94,7 @@ impl Outgoing {
 
     /// Puts what is sent about a line behind the rest, to one node after the other.
     pub fn send(&mut self, nodes: u32, line: Line, now: u64, sent: &Sent)
-        requires few { nodes ≤ 64 }
+        requires few { nodes ≤ max_processors }
         requires room { length (posts_in self.old) + nodes ≤ 2048 }
         requires known { (y : ℕ) → nodes ≤ y → sent_of sent.now y ≡ [] }
         ensures { posts_in self.new ≡ posts_in self.old ++ posts nodes line.0 now (sent_of sent.now) }
@@ -112,7 +113,7 @@ impl Outgoing {
 
     // Orders these nodes to give up their copies.
     fn send_invs(&mut self, nodes: u32, line: Line, now: u64, to: &NodeSet)
-        requires few { nodes ≤ 64 }
+        requires few { nodes ≤ max_processors }
         requires room { length (posts_in self.old) + nodes ≤ 2048 }
         ensures { posts_in self.new ≡ posts_in self.old ++ posts nodes line.0 now (to_each (set_of to.now) Inv) }
     {
@@ -123,7 +124,7 @@ impl Outgoing {
 
     // Orders node `x` to give up its copy, where it is among these.
     fn send_inv(&mut self, line: Line, now: u64, to: &NodeSet, x: Node)
-        requires node { x.0 < 64 }
+        requires node { x.0 < max_processors }
         requires room { length (posts_in self.old) < 2048 }
         ensures posts { posts_in self.new ≡ posts_in self.old ++ map (post_to line.0 now x.0) (to_each (set_of to.now) Inv x.0) }
         ensures one { length (posts_in self.new) ≤ length (posts_in self.old) + 1 }

@@ -1,6 +1,6 @@
 // What a home notes of its lines.
 ghost use Rattle.std.specs.Prelude.{◌≡◌, [], OnOk, true};
-ghost use Rattle.directory.specs.Noted.{record_of};
+ghost use Rattle.directory.specs.Meanings.{record_of};
 
 use crate::line_record::LineRecord;
 use rsim_base::{Line, NoMemory};
@@ -15,7 +15,7 @@ pub struct Records {
 
 impl Records {
     ghost use Rattle.memory_contracts.specs.Updates.{with_at};
-    ghost use Rattle.directory.specs.Kept.{has_line, records_in};
+    ghost use Rattle.directory.specs.HomeParts.{has_line, records_in};
 
     /// No lines.
     pub fn new(alloc: Global) -> Records

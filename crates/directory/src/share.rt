@@ -1,23 +1,24 @@
 // The lines of a home, as they are before any message.
 ghost use Rattle.std.specs.Prelude.{◌≡◌, ℕ, ◌+◌, ◌*◌, ◌/◌, ◌%◌, ◌^◌, ◌<◌, ◌≤◌, [], true, IfOk, OnOk};
 ghost use Rattle.std.specs.List.{list_any};
+ghost use Rattle.rsim_base.specs.Limits.{line_room};
 ghost use Rattle.elf64_load.specs.Image.{byte_at, is_mapped};
 ghost use Rattle.elf64_load.specs.Layout.{spans};
 ghost use Rattle.machine_config.specs.Allowed.{IsAllowed};
-ghost use Rattle.directory.specs.Kept.{has_line};
-ghost use Rattle.directory.specs.Noted.{record_of};
+ghost use Rattle.directory.specs.HomeParts.{has_line};
+ghost use Rattle.directory.specs.Meanings.{record_of};
 ghost use Rattle.directory.specs.Start.{AreFirst, IsFirst};
 
 use crate::line_record::{LinePhase, LineRecord};
 use crate::node_set::NodeSet;
 use crate::records::Records;
 use crate::word::LineBytes;
-use elf64_load::{Image, STACKS_END, STACKS_START, Span};
+use elf64_load::{Image, Span};
 use machine_config::Config;
-use rsim_base::{Addr, Line, NoMemory, Node};
+use rsim_base::{Addr, LINE_ROOM, Line, NoMemory, Node, STACK_BYTES, STACK_COUNT, STACKS_START};
 use std::alloc::Global;
 
-const STACKS_BYTES: u32 = (STACKS_END - STACKS_START) as u32;
+const STACKS_BYTES: u32 = (STACK_COUNT * STACK_BYTES) as u32;
 
 /// Which lines a home has: those whose number leaves this remainder.
 #[derive(Clone, Copy)]
@@ -26,7 +27,7 @@ pub struct Share {
     pub nodes: u64,
     pub home: Node,
     ghost some: { 1 < line_bytes },
-    ghost few: { line_bytes ≤ 128 },
+    ghost few: { line_bytes ≤ line_room },
     ghost node: { 0 < nodes },
 }
 
@@ -145,7 +146,7 @@ impl Share {
     fn first_bytes(&self, image: &Image, number: u64) -> LineBytes
         ensures { AreFirst image.now self.now.line_bytes number result }
     {
-        let mut bytes = [0; 128];
+        let mut bytes = [0; LINE_ROOM];
         for place in 0..self.line_bytes {
             bytes[place as usize] = self.byte(image, number, place);
         }

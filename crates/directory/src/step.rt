@@ -3,7 +3,7 @@ ghost use Rattle.std.specs.Prelude.{◌≡◌, false};
 ghost use Rattle.memory_contracts.specs.Protocol.HomeTable as HomeTable;
 ghost use Rattle.memory_contracts.specs.Protocol.Messages.{PutAck};
 ghost use Rattle.directory.specs.NodeSets.{set_of};
-ghost use Rattle.directory.specs.Noted.{phase_of, record_of, step_of};
+ghost use Rattle.directory.specs.Meanings.{phase_of, record_of, step_of};
 
 use crate::line_record::{LinePhase, LineRecord};
 use crate::node_set::NodeSet;

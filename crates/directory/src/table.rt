@@ -1,13 +1,14 @@
 // The home's table.
 ghost use Rattle.std.specs.Prelude.{◌≡◌, ◌<◌, ◌≤◌, if◌then◌else◌};
+ghost use Rattle.rsim_base.specs.Limits.{max_processors};
 ghost use Rattle.memory_contracts.specs.Protocol.HomeTable as Rows;
 ghost use Rattle.memory_contracts.specs.Protocol.HomeTable.{home_row, home_takes};
 ghost use Rattle.memory_contracts.specs.Protocol.Lines as Lines;
 ghost use Rattle.memory_contracts.specs.Protocol.Messages as Says;
-ghost use Rattle.directory.specs.Known.{IsKnown};
+ghost use Rattle.directory.specs.Bounds.{IsKnown};
 ghost use Rattle.directory.specs.NodeSets.{set_of};
-ghost use Rattle.directory.specs.Noted.{owner_of, record_of, step_of};
-ghost use Rattle.memory_contracts.specs.Said.{said};
+ghost use Rattle.directory.specs.Meanings.{owner_of, record_of, step_of};
+ghost use Rattle.memory_contracts.specs.Letters.{said};
 
 use crate::line_record::{LinePhase, LineRecord};
 use crate::node_set::NodeSet;
@@ -42,7 +43,7 @@ impl HomeTable {
 
     /// What the home does at a message of a node about a line of which this is noted.
     pub fn step(&self, noted: &LineRecord, m: &Message) -> Step
-        requires few { self.now.nodes ≤ 64 }
+        requires few { self.now.nodes ≤ max_processors }
         requires from { m.now.from.0 < self.now.nodes }
         requires known { IsKnown self.now.nodes (record_of noted.now) }
         ensures { step_of result ≡ home_takes self.now.protocol self.now.nodes m.now.from.0 (said m.now) (record_of noted.now) }
@@ -60,7 +61,7 @@ impl HomeTable {
 
     // Node `p` asks for the line, to read it.
     fn at_get_s(&self, noted: &LineRecord, p: Node) -> Step
-        requires few { self.now.nodes ≤ 64 }
+        requires few { self.now.nodes ≤ max_processors }
         requires from { p.0 < self.now.nodes }
         ensures { step_of result ≡ home_takes self.now.protocol self.now.nodes p.0 Says.GetS (record_of noted.now) }
     {
@@ -75,7 +76,7 @@ impl HomeTable {
 
     // A line that nobody owns is given to node `p` to read: to own where the protocol says so and nobody else has it.
     fn lends(&self, noted: &LineRecord, p: Node) -> Step
-        requires few { self.now.nodes ≤ 64 }
+        requires few { self.now.nodes ≤ max_processors }
         requires from { p.0 < self.now.nodes }
         ensures { step_of result ≡ home_row self.now.protocol self.now.nodes (record_of noted.now) Lines.Idle None p.0 Says.GetS }
     {
@@ -89,7 +90,7 @@ impl HomeTable {
 
     // Node `p` asks for the line, to own it.
     fn at_get_m(&self, noted: &LineRecord, p: Node) -> Step
-        requires few { self.now.nodes ≤ 64 }
+        requires few { self.now.nodes ≤ max_processors }
         requires from { p.0 < self.now.nodes }
         ensures { step_of result ≡ home_takes self.now.protocol self.now.nodes p.0 Says.GetM (record_of noted.now) }
     {
@@ -104,7 +105,7 @@ impl HomeTable {
 
     // A line that nobody owns is given to node `p` to own, after the others have given up their copies.
     fn gives(&self, noted: &LineRecord, p: Node) -> Step
-        requires few { self.now.nodes ≤ 64 }
+        requires few { self.now.nodes ≤ max_processors }
         requires from { p.0 < self.now.nodes }
         ensures { step_of result ≡ home_row self.now.protocol self.now.nodes (record_of noted.now) Lines.Idle None p.0 Says.GetM }
     {
@@ -135,7 +136,7 @@ impl HomeTable {
 
     // The copy of node `q` is gone.
     fn at_inv_ack(&self, noted: &LineRecord, q: Node) -> Step
-        requires few { self.now.nodes ≤ 64 }
+        requires few { self.now.nodes ≤ max_processors }
         requires from { q.0 < self.now.nodes }
         ensures { step_of result ≡ home_takes self.now.protocol self.now.nodes q.0 Says.InvAck (record_of noted.now) }
     {
@@ -155,7 +156,7 @@ impl HomeTable {
 
     // Node `x` hands back the bytes of the line, and may keep a shared copy.
     fn at_recall_ack(&self, noted: &LineRecord, x: Node, kept: bool, bytes: LineBytes) -> Step
-        requires few { self.now.nodes ≤ 64 }
+        requires few { self.now.nodes ≤ max_processors }
         requires from { x.0 < self.now.nodes }
         requires known { IsKnown self.now.nodes (record_of noted.now) }
         ensures { step_of result ≡ home_takes self.now.protocol self.now.nodes x.0 (Says.RecallAck kept bytes) (record_of noted.now) }
@@ -185,8 +186,8 @@ impl HomeTable {
 
 // Who shares a line that was called back from node `from` for node `to`.
 fn sharers_after(from: Node, to: Node, kept: bool) -> NodeSet
-    requires from { from.0 < 64 }
-    requires to { to.0 < 64 }
+    requires from { from.0 < max_processors }
+    requires to { to.0 < max_processors }
     ensures { set_of result ≡ Lines.joined to.0 (if kept then Lines.joined from.0 Lines.nobody else Lines.nobody) }
 {
     let mut sharers = NodeSet::empty();

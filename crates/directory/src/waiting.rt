@@ -18,8 +18,8 @@ pub struct Waiting {
 
 impl Waiting {
     ghost use Rattle.directory.specs.Homes.{first_for};
-    ghost use Rattle.directory.specs.Kept.{letters_in};
-    ghost use Rattle.memory_contracts.specs.Said.{letter_of};
+    ghost use Rattle.directory.specs.HomeParts.{letters_in};
+    ghost use Rattle.memory_contracts.specs.Letters.{letter_of};
 
     /// No request, where so many may wait.
     ///

@@ -5,6 +5,7 @@ use Rattle.std.specs.Option.{is_none, option_or}
 use Rattle.std.proofs.lemmas.Bool.{cases_Bool, ltb-false}
 use Rattle.std.proofs.lemmas.List.Elements.{All-cons, All-nil}
 use Rattle.std.proofs.lemmas.List.Sums.{sum_by-cons}
+use Rattle.list_facts.specs.Options.{option_or_assoc}
 use Rattle.elf64_load.specs.Image.{fetched}
 use Rattle.elf64_load.specs.Elf.{is_load, is_interp, meets_stacks, has_text, headers, entry_of, loaded}
 use Rattle.elf64_load.specs.Faults.{when, first_some, segment_fault, segments_fault, shared, faults, first_fault, Loads}
@@ -12,10 +13,6 @@ use Rattle.elf64_load.specs.Layout.{size_of, IsInFile}
 use Rattle.elf64_load.specs.declared.header.ProgramHeader.{ProgramHeader}
 use Rattle.elf64_load.specs.declared.fault.ElfFault.{ElfFault}
 use Rattle.elf64_load.specs.declared.fault.ElfFault.TheVariants.{Truncated, NotElf, NotBig64, NotSparcV9, NotExec, NoText, BadPhentsize, Interp, SegmentPastEnd, SegmentShort, SegmentWraps, TooLarge, StackOverlap, SharedBlock, BadEntry, Memory}
-
-pub option_or_assoc : {X : Type 0} (a b c : Option X) → option_or (option_or a b) c ≡ option_or a (option_or b c)
-option_or_assoc None b c = refl
-option_or_assoc (Some x) b c = refl
 
 pub first_some-append : (xs ys : List (Option ElfFault)) → first_some (xs ++ ys) ≡ option_or (first_some xs) (first_some ys)
 first_some-append [] ys = refl

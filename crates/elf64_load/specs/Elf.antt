@@ -4,6 +4,7 @@
 use Rattle.std.specs.Prelude.{ℕ, ◌+◌, ◌-◌, ◌*◌, ◌/◌, ◌%◌, ◌==◌, Bool, not, ◌&&◌, nat_lt, nat_le, List, ◌++◌, take, drop, map, filter, replicate, slice_index}
 use Rattle.std.specs.List.{range_with_len}
 use Rattle.byteorder.specs.Endian.{big_number}
+use Rattle.rsim_base.specs.Limits.{stack_count}
 use Rattle.elf64_load.specs.Image.{RegionView, ImageView, stack_start}
 use Rattle.elf64_load.specs.declared.header.ProgramHeader.{ProgramHeader}
 
@@ -69,7 +70,7 @@ may_read h = h.flags / 4 % 2 == 1
 
 -- it is a segment, and some byte of it is in a stack
 abbrev pub meets_stacks : ProgramHeader → Bool
-meets_stacks h = is_load h && nat_lt 0 h.memsz && nat_lt h.vaddr (stack_start 64) && nat_lt (stack_start 0) (h.vaddr + h.memsz)
+meets_stacks h = is_load h && nat_lt 0 h.memsz && nat_lt h.vaddr (stack_start stack_count) && nat_lt (stack_start 0) (h.vaddr + h.memsz)
 
 -- both are segments, and they have bytes in one aligned block of 128 bytes
 abbrev pub share_block : ProgramHeader → ProgramHeader → Bool

@@ -2,6 +2,7 @@
 use Rattle.std.specs.Prelude.{ℕ, ◌+◌, ◌-◌, ◌*◌, ◌/◌, ◌%◌, ◌==◌, Bool, not, ◌&&◌, ◌||◌, nat_lt, nat_le, if◌then◌else◌, List, length, drop, slice_index, find, Option, None, option_map, unwrap_or}
 use Rattle.std.specs.List.{list_any}
 use Rattle.byteorder.specs.Endian.{big_number}
+use Rattle.rsim_base.specs.Limits.{stack_bytes, stack_count, stacks_start}
 
 -- bytes of memory in a row, with their first contents and what may be done with them
 pub record RegionView : Type 0 where
@@ -32,15 +33,15 @@ content_at a r = slice_index r.bytes (a - r.first)
 abbrev pub word_at : ℕ → RegionView → ℕ
 word_at a r = big_number 4 (drop (a - r.first) r.bytes)
 
--- Stack p, for p below 64, is 65,536 bytes of zeros from here on. It may be read and written.
+-- Stack p, where there is one, begins here, and has zeros. It may be read and written.
 abbrev pub stack_start : ℕ → ℕ
-stack_start p = 0x7F000000 + p * 0x10000
+stack_start p = stacks_start + p * stack_bytes
 
 -- the n bytes from address a on all lie in one stack
 abbrev pub in_one_stack : ℕ → ℕ → Bool
 in_one_stack a n =
-    nat_le (stack_start 0) a && nat_lt a (stack_start 64)
-    && nat_le (a + n) (stack_start ((a - stack_start 0) / 0x10000 + 1))
+    nat_le (stack_start 0) a && nat_lt a (stack_start stack_count)
+    && nat_le (a + n) (stack_start ((a - stack_start 0) / stack_bytes + 1))
 
 -- the instruction word at pc: none where pc is no multiple of 4, or no text has its four bytes
 abbrev pub fetched : ImageView → ℕ → Option ℕ

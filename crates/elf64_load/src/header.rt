@@ -8,8 +8,9 @@ ghost use Rattle.elf64_load.specs.Layout.{size_of, segment_of};
 use crate::fault::ElfFault;
 use crate::segment::Segment;
 use crate::span::Span;
-use crate::stacks::{STACKS_END, STACKS_START};
+use crate::stacks::STACKS_END;
 use byteorder::{BigEndian, ByteOrder};
+use rsim_base::STACKS_START;
 
 /// How many bytes a program header has.
 pub const HEADER_BYTES: usize = 56;

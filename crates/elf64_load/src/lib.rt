@@ -14,11 +14,8 @@ mod shared;
 mod span;
 mod stacks;
 mod table;
-#[cfg(test)]
-mod tests;
 
 pub use fault::ElfFault;
 pub use image::Image;
 pub use loader::load;
 pub use span::Span;
-pub use stacks::{STACKS_END, STACKS_START};

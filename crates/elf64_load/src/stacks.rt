@@ -2,15 +2,10 @@
 ghost use Rattle.std.specs.Prelude.{◌≡◌, ◌<◌, ◌^◌};
 ghost use Rattle.elf64_load.specs.Image.{in_one_stack};
 
-/// Where the first stack begins.
-pub const STACKS_START: u64 = 0x7F00_0000;
+use rsim_base::{STACK_BYTES, STACK_COUNT, STACKS_START};
 
 /// Where the last stack ends.
 pub const STACKS_END: u64 = STACKS_START + STACK_COUNT * STACK_BYTES;
-
-const STACK_COUNT: u64 = 64;
-
-const STACK_BYTES: u64 = 0x1_0000;
 
 /// Whether the `count` bytes from `addr` on all lie in one stack.
 pub fn in_one_stack(addr: u64, count: u64) -> bool

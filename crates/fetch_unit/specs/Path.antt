@@ -4,9 +4,10 @@ use Rattle.rsim_base.specs.declared.processor.Pair.{Pair}
 use Rattle.rsim_base.specs.declared.processor.Window.{Window}
 use Rattle.elf64_load.specs.Image.{ImageView}
 use Rattle.sparc_decode.specs.declared.instr.Instr.{Instr}
-use Rattle.sparc_decode.specs.declared.instr.Op.{Op}
-use Rattle.sparc_decode.specs.declared.instr.Op.TheVariants as op
+use Rattle.sparc_decode.specs.declared.kinds.FormKind.{FormKind}
+use Rattle.sparc_decode.specs.declared.kinds.FormKind.TheVariants.{BranchesOnCodes, BranchesOnRegister, Calls, Traps}
 use Rattle.sparc_decode.specs.Effects.{window_effect_of}
+use Rattle.sparc_decode.specs.Kinds.{kind}
 use Rattle.sparc_alu.specs.Accesses.{effective}
 use Rattle.sparc_alu.specs.Numbers.{twos_complement}
 use Rattle.sparc_meaning.specs.Fetched.{AreWindows, fills_by, spills_by, windows_by}
@@ -57,23 +58,22 @@ is_always i = i.cond == 8
 abbrev pub target_of : Instr → Pair → ℕ
 target_of i pair = effective pair.pc (twos_complement i.disp)
 
--- where a branch leads that goes, or does not; CALL always goes, and other forms lead straight on
-abbrev pub branch_to : Op → Bool → Instr → Pair → Pair
-branch_to op.Bicc goes i pair = branched (is_always i) goes i.annul (target_of i pair) pair
-branch_to op.BPcc goes i pair = branched (is_always i) goes i.annul (target_of i pair) pair
-branch_to op.BPr goes i pair = branched false goes i.annul (target_of i pair) pair
-branch_to op.Call goes i pair = by_slot_to (target_of i pair) pair
-branch_to o goes i pair = straight pair
+-- where a branch leads that goes, or does not; CALL always goes, and other kinds lead straight on
+abbrev pub branch_to : FormKind → Bool → Instr → Pair → Pair
+branch_to BranchesOnCodes goes i pair = branched (is_always i) goes i.annul (target_of i pair) pair
+branch_to BranchesOnRegister goes i pair = branched false goes i.annul (target_of i pair) pair
+branch_to Calls goes i pair = by_slot_to (target_of i pair) pair
+branch_to _ goes i pair = straight pair
 
--- the pair that a guess at an instruction of this form leads to
-abbrev pub led_to : Guess → Op → Instr → Pair → Option Pair
-led_to Taken o i pair = Some (branch_to o true i pair)
-led_to NotTaken o i pair = Some (branch_to o false i pair)
-led_to (Target t) o i pair = Some (by_slot_to t pair)
-led_to Unknown o i pair = None
+-- the pair that a guess at an instruction of this kind leads to
+abbrev pub led_to : Guess → FormKind → Instr → Pair → Option Pair
+led_to Taken k i pair = Some (branch_to k true i pair)
+led_to NotTaken k i pair = Some (branch_to k false i pair)
+led_to (Target t) k i pair = Some (by_slot_to t pair)
+led_to Unknown k i pair = None
 
 abbrev pub led_by : Guess → Instr → Pair → Option Pair
-led_by g i pair = led_to g i.op i pair
+led_by g i pair = led_to g (kind i.op) i pair
 
 -- the pair that is guessed to follow, and how the predictor is left
 pub record Leading : Type 0 where
@@ -81,14 +81,14 @@ pub record Leading : Type 0 where
   pub after : PredictorView
 
 -- a trap leads nowhere, and the predictor is not asked
-abbrev pub leading_run : Op → Instr → Pair → PredictorView → Leading
-leading_run op.Trap i pair p = record { guess = None; after = p }
-leading_run o i pair p = let g = guessed pair.pc i p in record { guess = led_by g.guess i pair; after = g.after }
+abbrev pub leading_run : FormKind → Instr → Pair → PredictorView → Leading
+leading_run Traps i pair p = record { guess = None; after = p }
+leading_run _ i pair p = let g = guessed pair.pc i p in record { guess = led_by g.guess i pair; after = g.after }
 
 -- after a step of a spill or fill comes the same pair
 abbrev pub leading : Option ℕ → Instr → Pair → PredictorView → Leading
 leading (Some k) i pair p = record { guess = Some pair; after = p }
-leading None i pair p = leading_run i.op i pair p
+leading None i pair p = leading_run (kind i.op) i pair p
 
 -- ---- what is fetched
 

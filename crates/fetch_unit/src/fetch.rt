@@ -4,15 +4,15 @@ ghost use Rattle.machine_config.specs.Allowed.{IsAllowed};
 ghost use Rattle.sparc_meaning.specs.Fetched.{AreWindows, IsFetched};
 ghost use Rattle.fetch_unit.specs.Path.{FetchesAt, IsSpot, IsSpotAt, fetching, first_spot, follow, leading, meant_by};
 
-use crate::pairs::{led_by, pair_at};
+use crate::pairs::led_by;
 use crate::path::{Fetched, Spot};
-use crate::windows::{micro_after, micro_at, windows_behind};
+use crate::windows::{micro_after, micro_at};
 use branch_predict::Predictor;
 use elf64_load::Image;
 use machine_config::Config;
 use rsim_base::{NoMemory, Node, Pair, Window};
-use sparc_decode::{Instr, Op};
-use sparc_meaning::instr_at;
+use sparc_decode::{FormKind, Instr, kind};
+use sparc_meaning::{at_once_to, instr_at};
 use std::alloc::Global;
 use std::marker::Model;
 
@@ -56,7 +56,7 @@ impl FetchUnit {
     {
         Ok(FetchUnit {
             next: Some(Spot {
-                pair: pair_at(image.entry()),
+                pair: at_once_to(image.entry()),
                 micro: None,
                 window: FIRST_WINDOWS,
             }),
@@ -119,9 +119,9 @@ fn guess(micro: Option<u8>, i: &Instr, pair: Pair, predictor: &mut Predictor) ->
     ensures guess { result ≡ (leading micro i.now pair predictor.old).guess }
     ensures after { predictor.new ≡ (leading micro i.now pair predictor.old).after }
 {
-    match (micro, i.op) {
+    match (micro, kind(i.op)) {
         (Some(_), _) => Some(pair),
-        (None, Op::Trap) => None,
+        (None, FormKind::Traps) => None,
         (None, _) => led_by(predictor.guess(pair.pc, i), i, pair),
     }
 }
@@ -135,6 +135,6 @@ fn behind(fetched: &Fetched) -> Option<Spot>
     Some(Spot {
         pair,
         micro: micro_after(fetched.micro),
-        window: windows_behind(fetched.micro, &fetched.instr, fetched.window),
+        window: fetched.meant().windows_after(),
     })
 }

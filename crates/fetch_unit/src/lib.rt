@@ -2,13 +2,10 @@
 #![tactic(auto)]
 
 mod fetch;
-mod laws;
+pub mod laws;
 mod pairs;
 mod path;
-#[cfg(test)]
-mod tests;
 mod windows;
 
 pub use fetch::FetchUnit;
-pub use laws::guesses_that_are_right_lead_on;
 pub use path::Fetched;

@@ -3,8 +3,6 @@
 
 mod memory;
 mod parts;
-#[cfg(test)]
-mod tests;
 
 pub use memory::Memory;
 pub use parts::{first_doubleword, part, with_part};

@@ -4,10 +4,10 @@ use Rattle.std.specs.List.{All}
 use Rattle.std.proofs.lemmas.Bool.{and_parts, cases_Bool, cases_eq, eq-eqb, ne_eqb, cond-true, cond-false, both_ways, leb-true, ltb-true}
 use Rattle.std.proofs.lemmas.Bool.Decides.{nat_tests}
 use Rattle.rsim_base.specs.declared.processor.PhysReg.{PhysReg}
-use Rattle.places.specs.Sets.{has}
-use Rattle.places.specs.declared.set.Places.{Places}
-use Rattle.issue_queue.specs.declared.units.Unit.{Unit}
-use Rattle.issue_queue.specs.declared.units.Unit.TheVariants.{Alu, Mul, Div}
+use Rattle.ring_set.specs.Sets.{has}
+use Rattle.ring_set.specs.declared.set.Places.{Places}
+use Rattle.rsim_base.specs.declared.processor.Unit.{Unit}
+use Rattle.rsim_base.specs.declared.processor.Unit.TheVariants.{Alu, Mul, Div}
 use Rattle.issue_queue.specs.Units.{is_div, is_mul}
 use Rattle.issue_queue.specs.Needs.{is_clear, needs_it, numbers, readers_at}
 use Rattle.issue_queue.specs.Words.{unit_in}

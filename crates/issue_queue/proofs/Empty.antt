@@ -4,8 +4,8 @@ use Rattle.std.proofs.lemmas.Bool.{both_ways}
 use Rattle.machine_config.specs.Keys.{keys}
 use Rattle.machine_config.specs.Allowed.{IsAllowed}
 use Rattle.machine_config.specs.declared.config.Config.{Config}
-use Rattle.places.specs.Sets.{has}
-use Rattle.places.specs.declared.set.Places.{Places}
+use Rattle.ring_set.specs.Sets.{has}
+use Rattle.ring_set.specs.declared.set.Places.{Places}
 use Rattle.issue_queue.specs.Needs.{is_clear}
 use Rattle.issue_queue.specs.Tables.{IsSound, entries_of, entry_of, needs_at, until_at}
 use Rattle.issue_queue.specs.declared.table.Table.TheInside.{Inside}

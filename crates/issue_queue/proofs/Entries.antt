@@ -4,9 +4,9 @@ use Rattle.std.specs.List.{filter, list_all}
 use Rattle.std.specs.Option.{option_map_or}
 use Rattle.std.proofs.lemmas.Bool.{and_parts, cases_eq, eq-eqb, ne_eqb, cond-true, cond-false}
 use Rattle.rsim_base.specs.declared.processor.PhysReg.{PhysReg}
-use Rattle.places.specs.Sets.{aged, has, how_many, place_at}
-use Rattle.places.specs.declared.set.Places.{Places}
-use Rattle.issue_queue.specs.declared.units.Unit.{Unit}
+use Rattle.ring_set.specs.Sets.{aged, has, how_many, place_at}
+use Rattle.ring_set.specs.declared.set.Places.{Places}
+use Rattle.rsim_base.specs.declared.processor.Unit.{Unit}
 use Rattle.issue_queue.specs.declared.units.ByUnit.{ByUnit}
 use Rattle.issue_queue.specs.Units.{of_unit}
 use Rattle.issue_queue.specs.Needs.{is_clear, numbers}

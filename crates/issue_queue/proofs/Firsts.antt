@@ -1,7 +1,7 @@
 -- The least number that passes a test, by what it tells of the test.
 use Rattle.std.proofs.Common.{◌≡◌, ℕ, zero, suc, ◌+◌, ◌%◌, ◌<◌, ◌≤◌, Bool, true, false, cond, refl, sym, ap, ◌∙◌, subst, arith}
-use Rattle.places.specs.Sets.{aged, has, least, place_at}
-use Rattle.places.specs.declared.set.Places.{Places}
+use Rattle.ring_set.specs.Sets.{aged, has, least, place_at}
+use Rattle.ring_set.specs.declared.set.Places.{Places}
 use Rattle.issue_queue.specs.Words.{IsFirst, LacksAges}
 
 -- a is the first number below n that passes, or there is none and a is n

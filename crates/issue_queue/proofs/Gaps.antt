@@ -4,7 +4,7 @@ use Rattle.std.specs.List.{All, filter, find}
 use Rattle.std.proofs.lemmas.Bool.{true≢false, false≢true, cond-true, cond-false}
 use Rattle.std.proofs.lemmas.Bool.Decides.{nat_tests}
 use Rattle.std.proofs.lemmas.List.Elements.{All-head, All-tail}
-use Rattle.places.specs.Sets.{how_many}
+use Rattle.ring_set.specs.Sets.{how_many}
 use Rattle.issue_queue.specs.Tables.{listed}
 
 -- a test and a list after it, as at one step of a list with gaps

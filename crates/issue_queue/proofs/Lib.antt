@@ -6,4 +6,3 @@ pub mod Wakes
 pub mod Adds
 pub mod Empty
 pub mod Selects
-pub mod Numbers

@@ -2,8 +2,8 @@
 use Rattle.std.proofs.Common.{◌≡◌, ℕ, ◌+◌, ◌&&◌, nat_lt, Bool, map, length, Option, Some, None, refl, ap, ◌∙◌, subst}
 use Rattle.std.specs.List.{find}
 use Rattle.std.specs.Option.{option_map_or}
-use Rattle.issue_queue.specs.declared.units.Unit.{Unit}
-use Rattle.issue_queue.specs.declared.units.Unit.TheVariants.{Alu, Mul, Div}
+use Rattle.rsim_base.specs.declared.processor.Unit.{Unit}
+use Rattle.rsim_base.specs.declared.processor.Unit.TheVariants.{Alu, Mul, Div}
 use Rattle.issue_queue.specs.declared.units.ByUnit.{ByUnit}
 use Rattle.issue_queue.specs.Units.{of_unit}
 use Rattle.issue_queue.specs.Queues.{Entry, QueueView, Selects, SelectsOf, Settings, can_issue, free_divider, has_unit, is_ready, is_waiting, issued_until, latency, takes_unit}

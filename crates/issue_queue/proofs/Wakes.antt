@@ -3,8 +3,8 @@ use Rattle.std.proofs.Common.{◌≡◌, ℕ, ◌+◌, ◌%◌, ◌<◌, Bool, t
 use Rattle.std.proofs.lemmas.Bool.{and_parts, both_ways, cases_Bool}
 use Rattle.std.proofs.lemmas.List.{get_or_read}
 use Rattle.rsim_base.specs.declared.processor.PhysReg.{PhysReg}
-use Rattle.places.specs.Sets.{has}
-use Rattle.places.specs.declared.set.Places.{Places}
+use Rattle.ring_set.specs.Sets.{has}
+use Rattle.ring_set.specs.declared.set.Places.{Places}
 use Rattle.issue_queue.specs.Needs.{is_clear, needs_it, numbers, readers_at, without_reg}
 use Rattle.issue_queue.specs.Words.{needs_now}
 use Rattle.issue_queue.specs.Queues.{without, woken_entry}

@@ -1,6 +1,6 @@
 -- The entries of a queue and the present tick, apart from the units.
 use Rattle.std.specs.Prelude.{◌≡◌, ℕ, ◌+◌, ◌==◌, Bool, ◌&&◌, List, map, filter, find, Option, None, Some, not}
-use Rattle.issue_queue.specs.declared.units.Unit.{Unit}
+use Rattle.rsim_base.specs.declared.processor.Unit.{Unit}
 use Rattle.issue_queue.specs.declared.units.ByUnit.{ByUnit}
 use Rattle.issue_queue.specs.Units.{of_unit}
 use Rattle.issue_queue.specs.Queues.{Entry, is_waiting, is_ready, is_finished, issued_until}

@@ -3,7 +3,7 @@ use Rattle.std.specs.Prelude.{ℕ, ◌==◌, Bool, true, false, List, map, Optio
 use Rattle.std.specs.List.{list_all, list_any}
 use Rattle.std.specs.Option.{option_map_or}
 use Rattle.rsim_base.specs.declared.processor.PhysReg.{PhysReg}
-use Rattle.places.specs.declared.set.Places.{Places}
+use Rattle.ring_set.specs.declared.set.Places.{Places}
 
 -- the numbers of the registers
 abbrev pub numbers : List (Option PhysReg) → List (Option ℕ)

@@ -4,8 +4,9 @@ use Rattle.std.specs.List.{All, list_all}
 use Rattle.std.specs.Option.{option_map_or}
 use Rattle.machine_config.specs.declared.config.Config.{Config}
 use Rattle.rsim_base.specs.declared.processor.PhysReg.{PhysReg}
-use Rattle.issue_queue.specs.declared.units.Unit.{Unit}
-use Rattle.issue_queue.specs.declared.units.Unit.TheVariants.{Alu, Mul, Div}
+use Rattle.rsim_base.specs.Limits.{arch_registers}
+use Rattle.rsim_base.specs.declared.processor.Unit.{Unit}
+use Rattle.rsim_base.specs.declared.processor.Unit.TheVariants.{Alu, Mul, Div}
 
 pub record Entry : Type 0 where
   pub seq : ℕ
@@ -149,5 +150,5 @@ first_queue config = record {
     mul_latency = config.mul_latency;
     div_latency = config.div_latency;
   };
-  registers = 138 + config.rename_registers;
+  registers = arch_registers + config.rename_registers;
 }

@@ -1,7 +1,7 @@
 -- The fields of a table as the entries that they stand for.
 use Rattle.std.specs.Prelude.{◌≡◌, ℕ, zero, suc, ◌+◌, ◌%◌, ◌^◌, ◌<◌, Bool, true, not, ◌&&◌, if◌then◌else◌, List, [], ◌∷◌, length, Option, None, Some, nat_le, slice_index, slice_index_or}
 use Rattle.rsim_base.specs.declared.processor.PhysReg.{PhysReg}
-use Rattle.places.specs.Sets.{has}
+use Rattle.ring_set.specs.Sets.{has}
 use Rattle.issue_queue.specs.Held.{Held}
 use Rattle.issue_queue.specs.Needs.{is_clear, needs_it, numbers, readers_at}
 use Rattle.issue_queue.specs.Queues.{Entry}

@@ -1,7 +1,7 @@
 -- Kinds of units.
 use Rattle.std.specs.Prelude.{Bool, true, false}
-use Rattle.issue_queue.specs.declared.units.Unit.{Unit}
-use Rattle.issue_queue.specs.declared.units.Unit.TheVariants.{Alu, Mul, Div}
+use Rattle.rsim_base.specs.declared.processor.Unit.{Unit}
+use Rattle.rsim_base.specs.declared.processor.Unit.TheVariants.{Alu, Mul, Div}
 use Rattle.issue_queue.specs.declared.units.ByUnit.{ByUnit}
 
 abbrev pub is_mul : Unit → Bool

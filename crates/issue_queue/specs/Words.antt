@@ -1,10 +1,10 @@
 -- Words of places: the first age, the unit of a place, and the needs of a place after a wake.
 use Rattle.std.specs.Prelude.{◌≡◌, ℕ, ◌+◌, ◌%◌, ◌<◌, Bool, true, false, List, map, Option, if◌then◌else◌}
-use Rattle.places.specs.Sets.{has}
-use Rattle.places.specs.declared.set.Places.{Places}
+use Rattle.ring_set.specs.Sets.{has}
+use Rattle.ring_set.specs.declared.set.Places.{Places}
 use Rattle.rsim_base.specs.declared.processor.PhysReg.{PhysReg}
-use Rattle.issue_queue.specs.declared.units.Unit.{Unit}
-use Rattle.issue_queue.specs.declared.units.Unit.TheVariants.{Alu, Mul, Div}
+use Rattle.rsim_base.specs.declared.processor.Unit.{Unit}
+use Rattle.rsim_base.specs.declared.processor.Unit.TheVariants.{Alu, Mul, Div}
 use Rattle.issue_queue.specs.Needs.{without_reg}
 
 -- the first place of the set from that of a number on has this age

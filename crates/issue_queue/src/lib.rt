@@ -4,10 +4,8 @@
 mod needs;
 mod queue;
 mod table;
-#[cfg(test)]
-mod tests;
 mod units;
 mod words;
 
 pub use queue::IssueQueue;
-pub use units::Unit;
+pub use rsim_base::Unit;

@@ -1,10 +1,10 @@
 // The registers that an entry waits for.
 ghost use Rattle.std.specs.Prelude.{◌≡◌, ◌<◌, ◌==◌, ◌&&◌, ◌||◌, ℕ, map, length, true};
 ghost use Rattle.std.specs.List.{All};
-ghost use Rattle.places.specs.Sets.{has};
+ghost use Rattle.ring_set.specs.Sets.{has};
 ghost use Rattle.issue_queue.specs.Needs.{is_clear, is_need, is_within, needs_it, readers_at, without_reg};
 
-use places::Places;
+use ring_set::Places;
 use rsim_base::PhysReg;
 
 /// At most five registers.

@@ -5,9 +5,9 @@ ghost use Rattle.machine_config.specs.Allowed.{IsAllowed};
 ghost use Rattle.issue_queue.specs.Queues.{AreNeeded, Selects, Finishes, added, cut, first_queue, free_divider, has_place, ticked, woken};
 
 use crate::table::Table;
-use crate::units::{ByUnit, Unit};
+use crate::units::ByUnit;
 use machine_config::Config;
-use rsim_base::{NoMemory, PhysReg};
+use rsim_base::{ARCH_REGISTERS, NoMemory, PhysReg, Unit};
 use std::alloc::Global;
 use std::marker::Model;
 
@@ -52,7 +52,7 @@ impl IssueQueue {
         requires { IsAllowed config.now }
         ensures { IfOk result (λ q. q ≡ first_queue config.now) }
     {
-        let places = config.rename_registers as usize + 138;
+        let places = config.rename_registers as usize + usize::from(ARCH_REGISTERS);
         let table = Table::make(alloc, places)?;
         let dividers = vec![in alloc; 0u64; config.div_units as usize].map_err(|_| NoMemory)?;
         Ok(IssueQueue {

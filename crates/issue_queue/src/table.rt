@@ -6,10 +6,10 @@ ghost use Rattle.issue_queue.specs.Queues.{AreNeeded, entry, woken_entry};
 ghost use Rattle.issue_queue.specs.Held.{Ends, Issues};
 
 use crate::needs::{Needs, is_clear, note_readers};
-use crate::units::{ByUnit, Unit};
+use crate::units::{ByUnit, is_div, is_mul};
 use crate::words::{ages_to, clear_needs, ended, first_age, place_of, put, unit_of, with_able};
-use places::{PLACES, Places};
-use rsim_base::{NoMemory, PhysReg};
+use ring_set::{PLACES, Places};
+use rsim_base::{NoMemory, PhysReg, Unit};
 use std::alloc::Global;
 use std::marker::Model;
 
@@ -99,8 +99,8 @@ impl Table {
         self.live = self.live.with(place);
         self.ready = put(self.ready, place, is_clear(&needs));
         self.issued = self.issued.without(place);
-        self.mul = put(self.mul, place, unit.is_mul());
-        self.div = put(self.div, place, unit.is_div());
+        self.mul = put(self.mul, place, is_mul(unit));
+        self.div = put(self.div, place, is_div(unit));
         note_readers(&mut self.readers, &needs, place);
         self.needs[usize::from(place)] = needs;
     }

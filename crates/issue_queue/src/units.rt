@@ -1,36 +1,24 @@
 //! The units that instructions are issued to.
 ghost use Rattle.std.specs.Prelude.{◌≡◌};
+ghost use Rattle.issue_queue.specs.Units.{is_div, is_mul};
 
-/// A kind of unit.
-#[derive(Clone, Copy, Debug, PartialEq, Eq)]
-pub enum Unit {
-    /// Arithmetic, logic, shifts, branches and addresses.
-    Alu,
-    /// Multiplication.
-    Mul,
-    /// Division. A division has its unit until it is finished.
-    Div,
+use rsim_base::Unit;
+
+pub(crate) fn is_mul(unit: Unit) -> bool
+    ensures { result ≡ is_mul unit }
+{
+    match unit {
+        Unit::Mul => true,
+        Unit::Alu | Unit::Div => false,
+    }
 }
 
-impl Unit {
-    ghost use Rattle.issue_queue.specs.Units.{is_mul, is_div};
-
-    pub(crate) fn is_mul(self) -> bool
-        ensures { result ≡ is_mul self }
-    {
-        match self {
-            Unit::Mul => true,
-            Unit::Alu | Unit::Div => false,
-        }
-    }
-
-    pub(crate) fn is_div(self) -> bool
-        ensures { result ≡ is_div self }
-    {
-        match self {
-            Unit::Div => true,
-            Unit::Alu | Unit::Mul => false,
-        }
+pub(crate) fn is_div(unit: Unit) -> bool
+    ensures { result ≡ is_div unit }
+{
+    match unit {
+        Unit::Div => true,
+        Unit::Alu | Unit::Mul => false,
     }
 }
 

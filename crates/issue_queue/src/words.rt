@@ -1,14 +1,14 @@
 // Sets of places of the ring in which entries stand: an entry's place is its number modulo 128.
 ghost use Rattle.std.specs.Prelude.{◌≡◌, ℕ, ◌+◌, ◌<◌, ◌≤◌, ◌%◌, ◌==◌, ◌&&◌, nat_le, nat_lt, length, if◌then◌else◌, slice_index, slice_index_or, MatchOption, []};
-ghost use Rattle.places.specs.Sets.{has};
+ghost use Rattle.ring_set.specs.Sets.{has};
 ghost use Rattle.issue_queue.specs.Units.{of_unit};
 ghost use Rattle.issue_queue.specs.Needs.{is_clear, without_reg};
 ghost use Rattle.issue_queue.specs.Words.{IsFirst, LacksAges, needs_now, unit_in};
 
 use crate::needs::{Needs, clear_need, is_clear};
-use crate::units::{ByUnit, Unit};
-use places::{PLACES, Places};
-use rsim_base::PhysReg;
+use crate::units::ByUnit;
+use ring_set::{PLACES, Places};
+use rsim_base::{PhysReg, Unit};
 
 /// The place of an entry's number.
 pub fn place_of(seq: u64) -> u8

@@ -1,10 +1,8 @@
 pub mod Defaults
-pub mod Digits
 pub mod Lines
 pub mod Meant
 pub mod Numbers
 pub mod Places
-pub mod Ranges
 pub mod Table
 pub mod Whole
 pub mod Words

@@ -6,7 +6,7 @@ use Rattle.std.specs.Str.{bytes_eq}
 use Rattle.std.specs.Str.Parse.{digits_value}
 use Rattle.std.proofs.Common.{◌≡◌, ℕ, ◌<◌, Bool, true, false, cond, List, [], ◌∷◌, length, Option, Some, None, refl, arith}
 use Rattle.std.proofs.lemmas.Bool.{lt-ltb}
-use Rattle.machine_config.specs.Text.{is_number}
+use Rattle.rsim_base.specs.Decimals.{is_number}
 use Rattle.machine_config.specs.Keys.{Values, number, power, word}
 use Rattle.machine_config.specs.Allowed.{Allows}
 use Rattle.machine_config.specs.Faults.{range_fault, power_fault, value_fault, number_of}

@@ -8,7 +8,8 @@ use Rattle.std.specs.Str.Parse.{digits_value}
 use Rattle.std.proofs.Common.{◌≡◌, ◌≢◌, ℕ, ◌+◌, ◌%◌, ◌<◌, ◌==◌, Bool, true, false, not, cond, List, [], ◌∷◌, ◌++◌, map, length, get_or, Option, Some, None, Err, refl, sym, ap, ◌∙◌, arith}
 use Rattle.std.proofs.lemmas.Bool.{ne_eqb}
 use Rattle.std.proofs.lemmas.List.{get_or-map}
-use Rattle.machine_config.specs.Text.{is_text, lines, key_of, value_of, is_number}
+use Rattle.rsim_base.specs.Decimals.{is_number}
+use Rattle.machine_config.specs.Text.{is_text, lines, key_of, value_of}
 use Rattle.machine_config.specs.Keys.{Values, number, power, word, Key, keys, processors, mesh_width}
 use Rattle.machine_config.specs.Allowed.{Allows, IsAllowed}
 use Rattle.machine_config.specs.Faults.{names, range_fault, power_fault, value_fault, named_fault, line_fault, lines_fault, given, shape_fault, first_fault, IsNamedBy, Reads}

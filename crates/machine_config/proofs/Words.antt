@@ -1,7 +1,5 @@
 -- The words of a line.
-use Rattle.std.specs.List.{position_or_len, after_first, list_all}
-use Rattle.std.specs.Char.{is_ascii_digit}
-use Rattle.std.specs.Str.{all_ascii_digits}
+use Rattle.std.specs.List.{position_or_len, after_first}
 use Rattle.std.proofs.Common.{◌≡◌, ℕ, suc, ◌+◌, Bool, true, false, cond, List, [], ◌∷◌, drop, refl, sym, ap, ◌∙◌, arith}
 use Rattle.machine_config.specs.Text.{is_blank, trimmed, trimmed_front, trimmed_end}
 
@@ -34,7 +32,3 @@ front-after_first (x ∷ xs) = front-after (is_blank x) x xs refl (front-after_f
 -- the blank that ends the first word is trimmed away
 pub trimmed-after_first : (xs : List ℕ) → trimmed (drop (position_or_len is_blank xs) xs) ≡ trimmed (after_first is_blank xs)
 trimmed-after_first xs = ap trimmed_end (front-after_first xs)
-
-pub list_all-digits : (xs : List ℕ) → list_all is_ascii_digit xs ≡ all_ascii_digits xs
-list_all-digits [] = refl
-list_all-digits (x ∷ xs) = rw (list_all-digits xs) refl

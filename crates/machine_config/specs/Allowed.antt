@@ -2,6 +2,7 @@
 use Rattle.std.specs.Prelude.{◌≡◌, ℕ, ◌*◌, ◌%◌, ◌<◌, ◌≤◌, Bool, IsTrue, nat_le, length}
 use Rattle.std.specs.Int.{is_power_of_two}
 use Rattle.std.specs.List.{AllByRecursion}
+use Rattle.rsim_base.specs.Limits.{max_steps}
 use Rattle.machine_config.specs.Keys.{Values, number, power, word, keys}
 use Rattle.machine_config.specs.declared.config.Config.{Config}
 
@@ -18,4 +19,4 @@ pub record IsAllowed (config : Config) : Type 0 where
 
 -- the run is short enough
 abbrev pub is_short : Config → ℕ → Bool
-is_short config cycles = nat_le (cycles * config.processors * config.retire_width) 8000000
+is_short config cycles = nat_le (cycles * config.processors * config.retire_width) max_steps

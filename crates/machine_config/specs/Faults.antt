@@ -5,7 +5,8 @@ use Rattle.std.specs.Int.{is_power_of_two}
 use Rattle.std.specs.Option.{option_or}
 use Rattle.std.specs.Str.{bytes_eq}
 use Rattle.std.specs.Str.Parse.{digits_value}
-use Rattle.machine_config.specs.Text.{is_text, lines, key_of, value_of, is_number}
+use Rattle.rsim_base.specs.Decimals.{is_number}
+use Rattle.machine_config.specs.Text.{is_text, lines, key_of, value_of}
 use Rattle.machine_config.specs.Keys.{Values, number, power, word, Key, keys, processors, mesh_width}
 use Rattle.machine_config.specs.declared.config.Config.{Config}
 use Rattle.machine_config.specs.declared.fault.ConfigFault.{ConfigFault}

@@ -1,6 +1,7 @@
 -- The keys of a configuration: one row each, with its values and what stands where it is not named.
 -- `of` gives the number that a configuration has for the key; of a word it is the word's place in the row, from 0.
 use Rattle.std.specs.Prelude.{ℕ, Bool, if◌then◌else◌, List, [], ◌∷◌, codes}
+use Rattle.rsim_base.specs.Limits.{line_room, max_in_flight, max_processors}
 use Rattle.rsim_base.specs.declared.memory.Model.{Model}
 use Rattle.rsim_base.specs.declared.memory.Model.TheVariants.{Sc, Pc, Rc}
 use Rattle.machine_config.specs.declared.config.Config.{Config}
@@ -49,10 +50,10 @@ switch = word (codes "on" ∷ codes "off" ∷ [])
 
 -- the two keys that shape the mesh
 abbrev pub processors : Key
-processors = key (codes "processors") (number 1 16) 1 (λ c. c.processors)
+processors = key (codes "processors") (number 1 max_processors) 1 (λ c. c.processors)
 
 abbrev pub mesh_width : Key
-mesh_width = key (codes "mesh_width") (number 1 16) 1 (λ c. c.mesh_width)
+mesh_width = key (codes "mesh_width") (number 1 max_processors) 1 (λ c. c.mesh_width)
 
 -- the most instructions that a processor retires in a cycle
 abbrev pub retire_width : Key
@@ -66,13 +67,13 @@ keys =
     ∷ key (codes "speculate") switch 0 (λ c. place_of_switch c.speculate)
     ∷ key (codes "store_prefetch") switch 0 (λ c. place_of_switch c.store_prefetch)
     ∷ key (codes "protocol") (word (codes "msi" ∷ codes "mesi" ∷ [])) 1 (λ c. place_of_protocol c.protocol)
-    ∷ key (codes "line") (power 16 128) 64 (λ c. c.line)
+    ∷ key (codes "line") (power 16 line_room) 64 (λ c. c.line)
     ∷ key (codes "l1_sets") (power 1 1024) 64 (λ c. c.l1_sets)
     ∷ key (codes "l1_ways") (number 1 8) 2 (λ c. c.l1_ways)
     ∷ key (codes "l2_sets") (power 1 4096) 256 (λ c. c.l2_sets)
     ∷ key (codes "l2_ways") (number 1 16) 4 (λ c. c.l2_ways)
     ∷ key (codes "miss_registers") (number 1 16) 8 (λ c. c.miss_registers)
-    ∷ key (codes "active_list") (number 4 128) 64 (λ c. c.active_list)
+    ∷ key (codes "active_list") (number 4 max_in_flight) 64 (λ c. c.active_list)
     ∷ key (codes "rename_registers") (number 8 512) 128 (λ c. c.rename_registers)
     ∷ key (codes "fetch_width") (number 1 8) 4 (λ c. c.fetch_width)
     ∷ key (codes "fetch_queue") (number 1 32) 8 (λ c. c.fetch_queue)

@@ -40,7 +40,3 @@ key_of line = before_first is_blank (said line)
 -- the rest
 abbrev pub value_of : List ℕ → List ℕ
 value_of line = trimmed (after_first is_blank (said line))
-
--- one to ten decimal digits
-abbrev pub is_number : List ℕ → Bool
-is_number value = nat_le 1 (length value) && nat_le (length value) 10 && all_ascii_digits value

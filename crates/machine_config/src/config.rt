@@ -5,7 +5,7 @@ ghost use Rattle.machine_config.specs.Allowed.{is_short};
 ghost use Rattle.machine_config.specs.Reading.{AreAllowed};
 
 use crate::keys::KEY_COUNT;
-use rsim_base::Model;
+use rsim_base::{MAX_STEPS, Model};
 
 /// A directory protocol: with the states modified, shared and invalid, or exclusive beside them.
 #[derive(Clone, Copy, Debug, PartialEq, Eq)]
@@ -92,16 +92,13 @@ pub struct Config {
     pub router_depth: u32,
 }
 
-// The most instructions that a run may retire.
-const MAX_RETIRED: u128 = 8_000_000;
-
-/// Whether a run of so many cycles is short enough: all processors together retire at most 8,000,000
+/// Whether a run of so many cycles is short enough: all processors together retire at most `MAX_STEPS`
 /// instructions in them.
 pub fn fits(config: &Config, cycles: u32) -> bool
     ensures { result ≡ is_short config.now cycles }
 {
     u128::from(cycles) * u128::from(config.processors) * u128::from(config.retire_width)
-        <= MAX_RETIRED
+        <= u128::from(MAX_STEPS)
 }
 
 impl Config {

@@ -6,6 +6,7 @@ ghost use Rattle.machine_config.specs.Reading.{row_of, row_of_code};
 
 use crate::values::Values;
 use crate::values::Values::{Number, Power, Word};
+use rsim_base::{LINE_ROOM, MAX_IN_FLIGHT, MAX_PROCESSORS};
 
 /// How many keys there are.
 pub const KEY_COUNT: usize = 33;
@@ -22,19 +23,19 @@ const SWITCH: Values = Word(&[b"on", b"off"]);
 
 #[rattlefmt::skip]
 static KEYS: [Key; KEY_COUNT] = [
-    Key { name: b"processors", values: Number { low: 1, high: 16 }, default: 1 },
-    Key { name: b"mesh_width", values: Number { low: 1, high: 16 }, default: 1 },
+    Key { name: b"processors", values: Number { low: 1, high: MAX_PROCESSORS as u32 }, default: 1 },
+    Key { name: b"mesh_width", values: Number { low: 1, high: MAX_PROCESSORS as u32 }, default: 1 },
     Key { name: b"model", values: Word(&[b"sc", b"pc", b"rc"]), default: 0 },
     Key { name: b"speculate", values: SWITCH, default: 0 },
     Key { name: b"store_prefetch", values: SWITCH, default: 0 },
     Key { name: b"protocol", values: Word(&[b"msi", b"mesi"]), default: 1 },
-    Key { name: b"line", values: Power { low: 16, high: 128 }, default: 64 },
+    Key { name: b"line", values: Power { low: 16, high: LINE_ROOM as u32 }, default: 64 },
     Key { name: b"l1_sets", values: Power { low: 1, high: 1024 }, default: 64 },
     Key { name: b"l1_ways", values: Number { low: 1, high: 8 }, default: 2 },
     Key { name: b"l2_sets", values: Power { low: 1, high: 4096 }, default: 256 },
     Key { name: b"l2_ways", values: Number { low: 1, high: 16 }, default: 4 },
     Key { name: b"miss_registers", values: Number { low: 1, high: 16 }, default: 8 },
-    Key { name: b"active_list", values: Number { low: 4, high: 128 }, default: 64 },
+    Key { name: b"active_list", values: Number { low: 4, high: MAX_IN_FLIGHT as u32 }, default: 64 },
     Key { name: b"rename_registers", values: Number { low: 8, high: 512 }, default: 128 },
     Key { name: b"fetch_width", values: Number { low: 1, high: 8 }, default: 4 },
     Key { name: b"fetch_queue", values: Number { low: 1, high: 32 }, default: 8 },

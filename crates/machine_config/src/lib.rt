@@ -5,8 +5,6 @@ mod config;
 mod fault;
 mod keys;
 mod reader;
-#[cfg(test)]
-mod tests;
 mod text;
 mod values;
 

@@ -1,15 +1,10 @@
 // What may be said of a key, and reading it.
-ghost use Rattle.std.specs.Prelude.{◌≡◌, ◌<◌, ◌≤◌, ◌^◌, IsTrue, Some, None, if◌then◌else◌, length};
-ghost use Rattle.std.specs.Str.{all_ascii_digits};
-ghost use Rattle.std.specs.Str.Parse.{digits_value};
+ghost use Rattle.std.specs.Prelude.{◌≡◌, ◌<◌, ◌^◌};
 ghost use Rattle.machine_config.specs.Keys.{number, power};
 ghost use Rattle.machine_config.specs.Reading.{ReadsValue, values_of, word_count};
-ghost use Rattle.machine_config.specs.Text.{is_number};
 
 use crate::fault::ConfigFault;
-
-// The most digits that a number has.
-const MAX_DIGITS: usize = 10;
+use rsim_base::digits::decimal;
 
 /// What may be said of a key: a number from `low` to `high`, such a number that is a power of two, or
 /// one of some words.
@@ -41,7 +36,7 @@ impl Values {
 fn read_number(low: u32, high: u32, line: u32, value: &[u8]) -> Result<u32, ConfigFault>
     ensures { ReadsValue (number low high) line value.now result }
 {
-    let Some(number) = number(value) else {
+    let Some(number) = decimal(value) else {
         return Err(ConfigFault::BadNumber(line));
     };
     if number < u64::from(low) || number > u64::from(high) {
@@ -59,32 +54,4 @@ fn read_power(low: u32, high: u32, line: u32, value: &[u8]) -> Result<u32, Confi
         return Err(ConfigFault::NotPower(line));
     }
     Ok(number)
-}
-
-// The number that one to ten digits write.
-fn number(value: &[u8]) -> Option<u64>
-    ensures { result ≡ (if is_number value.now then Some (digits_value 10 value.now) else None) }
-{
-    if value.is_empty() || value.len() > MAX_DIGITS || !are_digits(value) {
-        return None;
-    }
-    Some(digits_value(value))
-}
-
-fn are_digits(value: &[u8]) -> bool
-    ensures { result ≡ all_ascii_digits value.now }
-{
-    value.iter().all(|byte| byte.is_ascii_digit())
-}
-
-fn digits_value(digits: &[u8]) -> u64
-    requires short { length digits.now ≤ 10 }
-    requires digits { IsTrue (all_ascii_digits digits.now) }
-    ensures { result ≡ digits_value 10 digits.now }
-{
-    let mut number = 0;
-    for digit in digits {
-        number = 10 * number + u64::from(*digit - b'0');
-    }
-    number
 }

@@ -1,5 +1,5 @@
 -- Lists of messages under way: one is sent, one is taken, a tick passes.
-use Rattle.std.proofs.Common.{◌≡◌, ◌⊎◌, inl, inr, ℕ, zero, suc, ◌+◌, ◌*◌, ◌<◌, ◌≤◌, ◌==◌, nat_lt, Bool, true, false, cond, ◌&&◌, List, [], ◌∷◌, ◌++◌, length, map, slice_get, get_or, Some, refl, sym, ap, subst, ◌∙◌, arith}
+use Rattle.std.proofs.Common.{◌≡◌, ℕ, zero, suc, ◌+◌, ◌*◌, ◌<◌, ◌≤◌, ◌==◌, nat_lt, Bool, true, false, cond, ◌&&◌, List, [], ◌∷◌, ◌++◌, length, map, slice_get, Some, refl, sym, ap, subst, ◌∙◌, arith}
 use Rattle.std.specs.List.{filter, remove}
 use Rattle.std.proofs.lemmas.Bool.Decides.{nat_tests}
 use Rattle.std.proofs.lemmas.Bool.{le-leb, lt-ltb}
@@ -11,37 +11,6 @@ use Rattle.memory_contracts.specs.declared.mesh.Mesh.{Mesh}
 use Rattle.memory_contracts.specs.declared.message.Class.{Class}
 use Rattle.memory_contracts.specs.declared.message.Class.TheVariants.{Ask, Order, Give, Reply}
 use Rattle.memory_contracts.specs.declared.packet.Packet.{Packet}
-
--- ---- an element of a list with one more, or one less
-
-pub slice_get-push : {A : Type 0} (xs : List A) (x : A) (i : ℕ) (y : A) → slice_get (xs ++ x ∷ []) i ≡ Some y → (slice_get xs i ≡ Some y) ⊎ (x ≡ y)
-slice_get-push [] x zero y e = inr cc
-slice_get-push [] x (suc i) y e = absurd cc
-slice_get-push (z ∷ zs) x zero y e = inl e
-slice_get-push (z ∷ zs) x (suc i) y e = slice_get-push zs x i y e
-
-pub slice_get-remove : {A : Type 0} (xs : List A) (k i : ℕ) (y : A) → slice_get (remove xs k) i ≡ Some y → (j : ℕ) × (slice_get xs j ≡ Some y)
-slice_get-remove [] zero i y e = (i, e)
-slice_get-remove [] (suc k) i y e = (i, e)
-slice_get-remove (x ∷ xs) zero i y e = (suc i, e)
-slice_get-remove (x ∷ xs) (suc k) zero y e = (zero, e)
-slice_get-remove (x ∷ xs) (suc k) (suc i) y e = let (j, at) = slice_get-remove xs k i y e in (suc j, at)
-
-pub slice_get-get_or : {A : Type 0} (xs : List A) (i : ℕ) (d : A) → i < length xs → slice_get xs i ≡ Some (get_or xs i d)
-slice_get-get_or [] i d below = absurd (omega (arith, below))
-slice_get-get_or (x ∷ xs) zero d below = refl
-slice_get-get_or (x ∷ xs) (suc i) d below = slice_get-get_or xs i d (omega (arith, below))
-
-pub slice_get-map_at : {A B : Type 0} (g : A → B) (xs : List A) (i : ℕ) (x : A) → slice_get xs i ≡ Some x → slice_get (map g xs) i ≡ Some (g x)
-slice_get-map_at g [] i x e = absurd cc
-slice_get-map_at g (y ∷ ys) zero x e = let same : y ≡ x = cc in ap (λ z. Some (g z)) same
-slice_get-map_at g (y ∷ ys) (suc i) x e = slice_get-map_at g ys i x e
-
-pub map-remove : {A B : Type 0} (g : A → B) (xs : List A) (k : ℕ) → map g (remove xs k) ≡ remove (map g xs) k
-map-remove g [] zero = refl
-map-remove g [] (suc k) = refl
-map-remove g (x ∷ xs) zero = refl
-map-remove g (x ∷ xs) (suc k) = ap (λ ys. g x ∷ ys) (map-remove g xs k)
 
 -- ---- how many pass a test
 

@@ -11,7 +11,7 @@ use Rattle.std.proofs.lemmas.List.Sums.{prefix_len-le-length}
 use Rattle.memory_contracts.specs.Bags.{marked}
 use Rattle.memory_contracts.specs.Carrier.{Flight, class_of, has_class, next_for, rank, waits_at}
 use Rattle.memory_contracts.specs.Packets.{IsNext, arrived_at, better, flight_of, flights_of, outranks}
-use Rattle.memory_contracts.proofs.Carriers.{slice_get-get_or}
+use Rattle.std.proofs.lemmas.Option.{slice_get-get_or}
 use Rattle.memory_contracts.specs.declared.message.Class.{Class}
 use Rattle.memory_contracts.specs.declared.message.Class.TheVariants.{Ask, Order, Give, Reply}
 use Rattle.memory_contracts.specs.declared.packet.Arrived.{Arrived}

@@ -4,6 +4,7 @@ use Rattle.std.specs.List.{remove}
 use Rattle.std.proofs.lemmas.Bool.{and_parts, eqb-true}
 use Rattle.std.proofs.lemmas.Bool.Decides.{nat_tests}
 use Rattle.std.proofs.lemmas.List.{length_push}
+use Rattle.list_facts.specs.Places.{slice_get_more, slice_get-remove}
 use Rattle.memory_contracts.specs.Bags.{marked}
 use Rattle.memory_contracts.specs.Carrier.{Flight, class_of, has_class, rank, same_class, sent_by}
 use Rattle.memory_contracts.specs.Carrying.{slice_get-map}
@@ -12,7 +13,7 @@ use Rattle.memory_contracts.specs.Rooms.{count_in, with_count}
 use Rattle.memory_contracts.specs.declared.message.Class.{Class}
 use Rattle.memory_contracts.specs.declared.message.Class.TheVariants.{Ask, Order, Give, Reply}
 use Rattle.memory_contracts.specs.declared.rooms.Rooms.{Rooms}
-use Rattle.memory_contracts.proofs.Carriers.{few_flights, filter-push, filter-remove, sent_by-marked, slice_get-push, slice_get-remove}
+use Rattle.memory_contracts.proofs.Carriers.{few_flights, filter-push, filter-remove, sent_by-marked}
 
 -- ---- classes by their ranks
 
@@ -83,8 +84,8 @@ in_rooms-sent flights nodes taken new capacity more f k kept source to class roo
     record {
       few = kept.few;
       memory = omega (arith, memory, same);
-      sources = λ i g at. ⊎_elim (λ there. kept.sources i g there) (λ new. subst Source new source) (slice_get-push flights f i g at);
-      destinations = λ i g at. ⊎_elim (λ there. kept.destinations i g there) (λ new. subst To new to) (slice_get-push flights f i g at);
+      sources = λ i g at. ⊎_elim (λ there. kept.sources i g there) (λ new. subst Source (sym new.1) source) (slice_get_more flights f i g at);
+      destinations = λ i g at. ⊎_elim (λ there. kept.destinations i g there) (λ new. subst To (sym new.1) to) (slice_get_more flights f i g at);
       counts = counts-sent flights taken new f k kept.counts class is;
       rooms = rooms-sent flights f kept.rooms (omega (arith, room, here));
     }

@@ -1,4 +1,3 @@
-pub mod Lists
 pub mod Numbers
 pub mod Turns
 pub mod Exchanges
@@ -6,8 +5,6 @@ pub mod Wishing
 pub mod Added
 pub mod Sizes
 pub mod Starting
-pub mod Readable
-pub mod Shapes
 pub mod Carriers
 pub mod InRooms
 pub mod Sending

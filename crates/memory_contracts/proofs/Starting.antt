@@ -1,27 +1,15 @@
 -- What the memory of an image begins with.
-use Rattle.std.proofs.Common.{◌≡◌, ℕ, ◌-◌, ◌*◌, ◌/◌, ◌%◌, ◌^◌, ◌<◌, Bool, true, false, List, [], ◌∷◌, find, Option, Some, None, is_some, option_map, unwrap_or, refl, sym, ap, ◌∙◌}
-use Rattle.std.specs.List.{list_any}
+use Rattle.std.proofs.Common.{◌≡◌, ℕ, ◌-◌, ◌*◌, ◌/◌, ◌%◌, ◌^◌, ◌<◌, Bool, true, false, Option, Some, None, is_some, unwrap_or, refl, sym, ap, ◌∙◌}
 use Rattle.std.proofs.Math.Nat.{zero-div}
-use Rattle.std.proofs.lemmas.Bool.{and_parts, or_parts, false_from_ne_true}
+use Rattle.std.proofs.lemmas.Bool.{and_parts, false_from_ne_true}
 use Rattle.rsim_base.specs.Bytes.{byte_of}
 use Rattle.rsim_base.specs.declared.memory.Node.{Node}
-use Rattle.elf64_load.specs.Image.{ImageView, byte_at, content_at, holds, in_one_stack, is_mapped}
+use Rattle.elf64_load.specs.Image.{ImageView, byte_at, is_mapped}
+use Rattle.image_memory.specs.Images.{byte_at-unmapped}
 use Rattle.memory_contracts.specs.Flat.{is_at}
 use Rattle.memory_contracts.specs.Parts.{AreFresh, byte_in, has_doubleword, has_line, has_place}
 use Rattle.memory_contracts.specs.declared.memory.Memory.{Memory}
 use Rattle.memory_contracts.specs.declared.owners.Owners.{Owners}
-
-find-none_any : {X : Type 0} (p : X → Bool) (xs : List X) → list_any p xs ≡ false → find p xs ≡ None
-find-none_any p [] none = refl
-find-none_any p (x ∷ xs) none =
-    let parts = or_parts (p x) (list_any p xs) none in
-    rw parts.0 (find-none_any p xs parts.1)
-
--- the image has a zero where there is no memory
-byte_at-unmapped : (image : ImageView) (a : ℕ) → is_mapped image a ≡ false → byte_at image a ≡ 0
-byte_at-unmapped image a none =
-    let parts = or_parts (list_any (holds a 1) image.regions) (in_one_stack a 1) none in
-    ap (λ o. unwrap_or (option_map (content_at a) o) 0) (find-none_any (holds a 1) image.regions parts.0)
 
 unwrap_none : (o : Option ℕ) → is_some o ≡ false → unwrap_or o 0 ≡ 0
 unwrap_none None none = refl

@@ -7,13 +7,14 @@ use Rattle.memory_contracts.specs.Carrier.{TakesOne, earliest, next_for}
 use Rattle.memory_contracts.specs.Packets.{carrier_of, flight_of, flights_of}
 use Rattle.memory_contracts.specs.declared.mesh.Mesh.{Mesh}
 use Rattle.memory_contracts.specs.declared.packet.Packet.{Packet}
-use Rattle.memory_contracts.proofs.Carriers.{map-remove, slice_get-get_or, slice_get-map_at}
+use Rattle.std.proofs.lemmas.Option.{slice_get-get_or}
+use Rattle.list_facts.specs.Places.{map-remove, slice_get_mapped}
 use Rattle.memory_contracts.proofs.Choices.{next_for-is}
 
 -- a packet of the list stands among the flights
 pub stands : (width now : ℕ) (packets : List Packet) (i : ℕ) (s : Packet) → i < length packets → s ≡ get_or packets i s → slice_get (flights_of width now packets) i ≡ Some (marked width now (flight_of s))
 stands width now packets i s below read =
-    slice_get-map_at (λ s. marked width now (flight_of s)) packets i s (slice_get-get_or packets i s below ∙ ap (λ s. Some s) (sym read))
+    slice_get_mapped (λ s. marked width now (flight_of s)) packets i s (slice_get-get_or packets i s below ∙ ap (λ s. Some s) (sym read))
 
 pub takes-one : (mesh : Mesh) (now : ℕ) (p i : ℕ) (old new : List Packet) (s : Packet) → next_for p (flights_of mesh.width now old) ≡ Some i → i < length old → s ≡ get_or old i s → new ≡ remove old i →
     TakesOne p (carrier_of mesh now old) (carrier_of mesh now new) s.message

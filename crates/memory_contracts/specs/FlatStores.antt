@@ -1,6 +1,6 @@
 -- A flat store as its whole state.
 use Rattle.memory_contracts.specs.Flat.{FlatView}
-use Rattle.memory_contracts.specs.Kept.{view_of}
+use Rattle.memory_contracts.specs.FlatLayout.{view_of}
 use Rattle.memory_contracts.specs.declared.flat.FlatStore.{FlatStore}
 
 abbrev pub flat_of : FlatStore → FlatView

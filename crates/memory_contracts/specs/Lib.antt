@@ -5,12 +5,13 @@ pub mod Carrying
 pub mod First
 pub mod Flat
 pub mod FlatStores
-pub mod Kept
+pub mod FlatLayout
 pub mod Packets
 pub mod Parts
 pub mod Protocol
 pub mod Rooms
-pub mod Said
+pub mod Letters
+pub mod Shapes
 pub mod Sound
 pub mod Start
 pub mod Store

@@ -1,6 +1,7 @@
 -- What a carrier that keeps a list of messages keeps, and what it stands for.
 use Rattle.std.specs.Prelude.{◌≡◌, ℕ, ◌*◌, ◌<◌, ◌≤◌, ◌==◌, nat_lt, Bool, true, false, ◌&&◌, if◌then◌else◌, List, map, length, slice_get, Option, None, Some}
 use Rattle.std.specs.List.{position}
+use Rattle.rsim_base.specs.Limits.{max_processors}
 use Rattle.memory_contracts.specs.Bags.{marked}
 use Rattle.memory_contracts.specs.Carrier.{CarrierView, Flight, class_of, rank, room, sent_by, waits_at}
 use Rattle.memory_contracts.specs.Rooms.{count_in}
@@ -30,7 +31,7 @@ carrier_of mesh now packets = record {
 
 -- The packets go between the nodes, their rooms are counted, and there is memory for all that the rooms allow.
 pub record AreInRooms (flights : List Flight) (nodes : ℕ) (taken : Rooms) (capacity : ℕ) : Type 0 where
-  pub few : nodes ≤ 16
+  pub few : nodes ≤ max_processors
   pub memory : nodes * 32 ≤ capacity
   pub sources : (i : ℕ) (f : Flight) → slice_get flights i ≡ Some f → f.source < nodes
   pub destinations : (i : ℕ) (f : Flight) → slice_get flights i ≡ Some f → f.to < nodes

@@ -11,3 +11,4 @@ pub mod Alike
 pub mod Awaited
 pub mod Walks
 pub mod Laws
+pub mod Promised

@@ -6,7 +6,7 @@ use Rattle.rsim_base.specs.declared.memory.Node.{Node}
 use Rattle.memory_contracts.specs.Store.{IsSound, most_wishes}
 use Rattle.elf64_load.specs.declared.span.Span.{Span}
 use Rattle.memory_contracts.specs.Flat.{FlatView, is_at, store_of}
-use Rattle.memory_contracts.specs.Kept.{view_of}
+use Rattle.memory_contracts.specs.FlatLayout.{view_of}
 use Rattle.memory_contracts.specs.Parts.{AreFew, wanted_in, wish_of}
 use Rattle.memory_contracts.specs.declared.memory.Memory.{Memory}
 use Rattle.memory_contracts.specs.declared.owners.Owners.{Owners}

@@ -1,6 +1,7 @@
 // The moves of lines in one tick.
 ghost use Rattle.std.specs.Prelude.{◌≡◌, ◌+◌, ◌<◌, ◌≤◌, ◌==◌, ◌∷◌, ◌++◌, [], length, true, Some};
 ghost use Rattle.std.specs.List.{list_any};
+ghost use Rattle.rsim_base.specs.Limits.{max_processors};
 ghost use Rattle.memory_contracts.specs.Flat as Flat;
 ghost use Rattle.memory_contracts.specs.Flat.{is_at, left_by};
 ghost use Rattle.memory_contracts.specs.Parts.{AreFew, AreKnown, AreTurns, has_line, moves_of, nodes_in, owner_in};
@@ -10,10 +11,10 @@ use crate::owners::Owners;
 use crate::store::LostList;
 use crate::wishes::Wishes;
 use arrayvec::ArrayVec;
-use rsim_base::{Line, Node};
+use rsim_base::{Line, MAX_PROCESSORS, Node};
 
 /// The most nodes that a machine has.
-pub const MOST_NODES: usize = 16;
+pub const MOST_NODES: usize = MAX_PROCESSORS as usize;
 
 /// The lines that have moved in a tick.
 pub type MovedList = ArrayVec<Line, MOST_NODES>;
@@ -29,7 +30,7 @@ pub fn turn(
     requires node { p.0 < nodes_in wishes.old }
     requires known { AreKnown owners.old wishes.old }
     requires few { AreFew wishes.old }
-    requires room { (length moved.old.items < 16) × (length lost.old.items < 128) }
+    requires room { (length moved.old.items < max_processors) × (length lost.old.items < 128) }
     ensures rule { moves_of owners.new wishes.new moved.new lost.new ≡ Flat.turn p.0 (moves_of owners.old wishes.old moved.old lost.old) }
     ensures nodes { nodes_in wishes.new ≡ nodes_in wishes.old }
     ensures lines { has_line owners.new ≡ has_line owners.old }
@@ -69,7 +70,7 @@ pub fn is_at(owner: Option<Node>, p: Node) -> bool
 // Moves a line to node `p`.
 fn give(owners: &mut Owners, moved: &mut MovedList, lost: &mut LostList, line: Line, p: Node)
     requires known { has_line owners.old line.0 ≡ true }
-    requires room { (length moved.old.items < 16) × (length lost.old.items < 128) }
+    requires room { (length moved.old.items < max_processors) × (length lost.old.items < 128) }
     ensures owner { owner_in owners.new ≡ with_at (owner_in owners.old) line.0 (Some p) }
     ensures lines { has_line owners.new ≡ has_line owners.old }
     ensures moved { moved.new.items ≡ moved.old.items ++ line ∷ [] }
@@ -84,7 +85,7 @@ fn give(owners: &mut Owners, moved: &mut MovedList, lost: &mut LostList, line: L
 
 /// The turns of all nodes in one tick, in rising order. `lost` has afterwards the lines that left a node.
 pub fn take_turns(owners: &mut Owners, wishes: &mut Wishes, lost: &mut LostList)
-    requires nodes { nodes_in wishes.old ≤ 16 }
+    requires nodes { nodes_in wishes.old ≤ max_processors }
     requires known { AreKnown owners.old wishes.old }
     requires few { AreFew wishes.old }
     ensures rule { AreTurns owners.old wishes.old owners.new wishes.new lost.new }

@@ -2,7 +2,7 @@
 ghost use Rattle.std.specs.Prelude.{◌≡◌, ◌<◌, IfOk};
 ghost use Rattle.machine_config.specs.Allowed.{IsAllowed};
 ghost use Rattle.memory_contracts.specs.Flat.{exchanged, store_of, ticked};
-ghost use Rattle.memory_contracts.specs.Kept.{AreKept};
+ghost use Rattle.memory_contracts.specs.FlatLayout.{AreKept};
 ghost use Rattle.memory_contracts.specs.Start.{IsStart};
 
 use crate::exchange::{is_at, take_turns};

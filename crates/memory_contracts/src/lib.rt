@@ -2,12 +2,10 @@
 #![tactic(auto)]
 
 mod bag;
-#[cfg(test)]
-mod bag_tests;
 mod carrier;
 mod exchange;
 mod flat;
-mod laws;
+pub mod laws;
 mod memory;
 mod mesh;
 mod message;
@@ -16,14 +14,11 @@ mod packet;
 mod places;
 mod rooms;
 mod store;
-#[cfg(test)]
-mod tests;
 mod wishes;
 
 pub use bag::BagCarrier;
 pub use carrier::Carrier;
 pub use flat::FlatStore;
-pub use laws::lines_stay_coherent;
 pub use message::{Class, Message, MsgKind};
 pub use store::{CoherentStore, LostList};
 pub use wishes::Wanted;

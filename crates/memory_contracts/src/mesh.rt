@@ -1,5 +1,6 @@
 // The mesh that joins the nodes.
 ghost use Rattle.std.specs.Prelude.{◌≡◌, ◌<◌, ◌≤◌, OnOk};
+ghost use Rattle.rsim_base.specs.Limits.{line_room, max_processors};
 ghost use Rattle.machine_config.specs.Allowed.{IsAllowed};
 ghost use Rattle.memory_contracts.specs.Carrier.{distance, flits_of, packet_flits};
 
@@ -19,7 +20,7 @@ pub struct Mesh {
     bare_flits: u32,
     line_flits: u32,
     ghost columns: { 0 < width },
-    ghost few: { nodes ≤ 16 },
+    ghost few: { nodes ≤ max_processors },
     ghost flits: { 0 < flit_bytes },
     ghost bare: { bare_flits ≡ packet_flits flit_bytes 0 },
     ghost line: { line_flits ≡ packet_flits flit_bytes line_bytes },
@@ -69,7 +70,7 @@ impl Mesh {
 // The flits of a message that carries so many bytes.
 fn packet_flits(flit_bytes: u32, bytes: u32) -> u32
     requires some { 0 < flit_bytes }
-    requires few { (flit_bytes ≤ 16) × (bytes ≤ 128) }
+    requires few { (flit_bytes ≤ 16) × (bytes ≤ line_room) }
     ensures { result ≡ packet_flits flit_bytes bytes }
 {
     (8 + bytes).div_ceil(flit_bytes)

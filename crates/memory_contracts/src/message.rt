@@ -2,7 +2,7 @@
 ghost use Rattle.std.specs.Prelude.{◌≡◌};
 ghost use Rattle.memory_contracts.specs.Carrier.{carries_bytes, class_of};
 
-use rsim_base::{Line, Node};
+use rsim_base::{LINE_ROOM, Line, Node};
 
 /// The class of a message, from the lowest to the highest. Each class has rooms of its own, so that a message never waits
 /// for one of a lower class.
@@ -75,5 +75,5 @@ pub struct Message {
     /// Of a RecallAck: the node keeps a shared copy.
     pub kept: bool,
     /// The bytes of the line, in front, where the kind carries them.
-    pub bytes: [u8; 128],
+    pub bytes: [u8; LINE_ROOM],
 }

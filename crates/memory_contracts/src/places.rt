@@ -7,11 +7,11 @@ ghost use Rattle.memory_contracts.specs.Parts.{AreFresh, AreMore, has_place};
 
 use crate::memory::Memory;
 use crate::owners::Owners;
-use elf64_load::{Image, STACKS_END, STACKS_START, Span};
-use rsim_base::{Line, NoMemory};
+use elf64_load::{Image, Span};
+use rsim_base::{Line, NoMemory, STACK_BYTES, STACK_COUNT, STACKS_START};
 use std::alloc::Global;
 
-const STACKS_BYTES: u32 = (STACKS_END - STACKS_START) as u32;
+const STACKS_BYTES: u32 = (STACK_COUNT * STACK_BYTES) as u32;
 
 /// The memory of an image, and its lines, of `per_line` doublewords each: no node has one.
 ///

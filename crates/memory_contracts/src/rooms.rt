@@ -1,5 +1,6 @@
 // The rooms that each node has for its messages.
 ghost use Rattle.std.specs.Prelude.{◌≡◌, ℕ, ◌+◌, ◌-◌, ◌<◌, nat_le};
+ghost use Rattle.rsim_base.specs.Limits.{max_processors};
 ghost use Rattle.memory_contracts.specs.Rooms.{counted_of, with_counted};
 
 use crate::exchange::MOST_NODES;
@@ -62,7 +63,7 @@ impl Rooms {
 
     /// Whether the room of node `p` for a class is full.
     pub fn is_full(&self, p: Node, class: Class) -> bool
-        requires { p.0 < 16 }
+        requires { p.0 < max_processors }
         ensures { result ≡ nat_le 8 (count_in self.now p.0 class) }
     {
         self.counts[p.0 as usize].of(class) >= ROOM
@@ -70,7 +71,7 @@ impl Rooms {
 
     /// A message of node `p` enters its room.
     pub fn enter(&mut self, p: Node, class: Class)
-        requires node { p.0 < 16 }
+        requires node { p.0 < max_processors }
         requires room { count_in self.old p.0 class < 8 }
         ensures { count_in self.new ≡ with_count (count_in self.old) p.0 class (count_in self.old p.0 class + 1) }
     {
@@ -80,7 +81,7 @@ impl Rooms {
 
     /// A message of node `p` leaves its room.
     pub fn leave(&mut self, p: Node, class: Class)
-        requires node { p.0 < 16 }
+        requires node { p.0 < max_processors }
         requires some { 0 < count_in self.old p.0 class }
         ensures { count_in self.new ≡ with_count (count_in self.old) p.0 class (count_in self.old p.0 class - 1) }
     {

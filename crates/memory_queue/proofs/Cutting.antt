@@ -6,25 +6,10 @@ use Rattle.std.proofs.lemmas.List.Elements.{filter-append}
 use Rattle.std.proofs.lemmas.Bool.{cases_lt}
 use Rattle.std.proofs.lemmas.Option.{slice_get-get_or, slice_get_within, get_or_from_slice_get}
 use Rattle.circular_buffer.specs.Buffer.{last_item}
+use Rattle.list_facts.specs.Filters.{filter-all, filter-without_last}
 use Rattle.memory_queue.specs.Queues.{AreRising, is_after}
 use Rattle.memory_queue.specs.declared.queued.Queued.{Queued}
 use Rattle.memory_queue.proofs.Walking.{length-take}
-
-filter-all : {X : Type 0} (p : X → Bool) (xs : List X) → All (λ x. p x ≡ true) xs → filter p xs ≡ xs
-filter-all p [] h = refl
-filter-all {X} p (x ∷ xs) h =
-    let here : p x ≡ true = h zero x (omega arith) in
-    rw here (ap (λ (ys : List X). x ∷ ys) (filter-all p xs (λ k d l. h (suc k) d (omega arith))))
-
-filter-without_last : {X : Type 0} (p : X → Bool) (xs : List X) (x : X) → slice_get xs (length xs - 1) ≡ Some x → p x ≡ false →
-    filter p (take (length xs - 1) xs) ≡ filter p xs
-filter-without_last {X} p xs x last gone =
-    let n = length xs - 1 in
-    let within : n < length xs = slice_get_within xs n x last in
-    let whole : take (n + 1) xs ≡ xs = take_all (n + 1) xs (omega arith) in
-    let parts : xs ≡ take n xs ++ x ∷ [] = sym whole ∙ take_more xs n x within ∙ ap (λ (y : X). take n xs ++ y ∷ []) (get_or_from_slice_get xs n x x last) in
-    let none : filter p (x ∷ []) ≡ [] = rw gone refl in
-    sym (ap (filter p) parts ∙ filter-append p (take n xs) (x ∷ []) ∙ ap (λ (ys : List X). filter p (take n xs) ++ ys) none ∙ append-nil (filter p (take n xs)))
 
 -- the first ones of rising numbers rise
 pub rising-without_last : (xs : List Queued) → AreRising xs → AreRising (take (length xs - 1) xs)

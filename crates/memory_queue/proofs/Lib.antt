@@ -3,5 +3,4 @@ mod Cutting
 mod Forwarding
 mod Parts
 mod Rising
-mod Sizes
 mod Walking

@@ -71,17 +71,3 @@ none-more seq xs place x at other none k d below =
     let here : k ≡ place = omega (arith, past, below) in
     λ e. other (ap (λ (y : Queued). y.seq) (sym (ap (λ j. get_or xs j d) here ∙ get_or_from_slice_get xs place x d at)) ∙ e))
     (cases_lt k place)
-
--- ---- what comes next
-
--- all are below the next number after one more has it
-pub below-pushed : (seq : ℕ) (kind : Kind) (size : Size) (fences : Fences) (q : QueueView) → All (λ (x : Queued). x.seq < seq) q.accesses →
-    All (λ (x : Queued). x.seq < seq + 1) (pushed seq kind size fences q).accesses
-below-pushed seq kind size fences q below = by (has_place q)
-  where
-    wider : All (λ (x : Queued). x.seq < seq + 1) q.accesses
-    wider k d within = omega (arith, below k d within)
-
-    by : (b : Bool) → All (λ (x : Queued). x.seq < seq + 1) (cond b (record q { accesses = q.accesses ++ joining seq kind size fences ∷ [] }) q).accesses
-    by true = All-push (λ (x : Queued). x.seq < seq + 1) q.accesses (joining seq kind size fences) wider (omega arith)
-    by false = wider

@@ -4,8 +4,6 @@
 mod laws;
 mod queue;
 mod queued;
-#[cfg(test)]
-mod tests;
 
 pub use laws::forwarded_bytes_are_the_stores;
 pub use queue::MemoryQueue;

@@ -25,12 +25,13 @@ pub struct MemoryQueue {
 impl Model for MemoryQueue {
     ghost use Rattle.std.specs.Prelude.{◌≤◌};
     ghost use Rattle.memory_queue.specs.Queues.{AreRising, QueueView};
+    ghost use Rattle.rsim_base.specs.Limits.{max_in_flight};
 
     ghost Value = { QueueView };
 
     ghost view = { λ q. record { accesses = q.accesses.items; size = q.accesses.capacity; model = q.model; speculates = q.speculates } };
 
-    ghost invariant = { λ q. AreRising q.accesses.items × (q.accesses.capacity ≤ 128) };
+    ghost invariant = { λ q. AreRising q.accesses.items × (q.accesses.capacity ≤ max_in_flight) };
 }
 
 impl MemoryQueue {

@@ -4,7 +4,7 @@ ghost use Rattle.std.specs.FinMap.{empty};
 ghost use Rattle.miss_registers.specs.Misses.{register_of, victim_of, bytes_of, covers, registers_full, slots_full, with_register, without_register, with_victim, without_victim, with_emptied};
 
 use crate::line_table::LineTable;
-use rsim_base::{Line, NoMemory, NoneFree};
+use rsim_base::{LINE_ROOM, Line, NoMemory, NoneFree};
 use std::alloc::Global;
 use std::marker::Model;
 
@@ -13,11 +13,11 @@ use std::marker::Model;
 ///
 /// A line has at most one register and at most one slot. A register is open from the request for its line to the grant,
 /// and knows whether it asks to own the line. A slot keeps the line's bytes until they are recalled, and is emptied
-/// then; only the acknowledgement frees it. The bytes are always 128, the most that a line can have.
+/// then; only the acknowledgement frees it. There is always room for the longest line.
 #[derive(Drop)]
 pub struct MissRegisters {
     registers: LineTable<bool>,
-    victims: LineTable<Option<[u8; 128]>>,
+    victims: LineTable<Option<[u8; LINE_ROOM]>>,
 }
 
 impl Model for MissRegisters {
@@ -93,7 +93,7 @@ impl MissRegisters {
     ///
     /// # Errors
     /// `NoneFree` where every slot is taken, and nowhere else. Nothing changes then.
-    pub fn keep_victim(&mut self, line: Line, bytes: &[u8; 128]) -> Result<(), NoneFree>
+    pub fn keep_victim(&mut self, line: Line, bytes: &[u8; LINE_ROOM]) -> Result<(), NoneFree>
         requires { victim_of self.old line.0 ≡ None }
         ensures full { is_err result ≡ slots_full self.old }
         ensures ok { OnOk result (self.new ≡ with_victim line.0 (Some bytes.now) self.old) }
@@ -103,7 +103,7 @@ impl MissRegisters {
     }
 
     /// The bytes in the line's slot. None where it has no slot, and where its slot was emptied.
-    pub fn victim(&self, line: Line) -> Option<&[u8; 128]>
+    pub fn victim(&self, line: Line) -> Option<&[u8; LINE_ROOM]>
         ensures { option_copied result ≡ bytes_of self.now line.0 }
     {
         self.victims.get(line)?.as_ref()

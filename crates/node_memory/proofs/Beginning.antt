@@ -11,11 +11,12 @@ use Rattle.cache_levels.specs.Levels.{LevelsView, copy_at, evicted_as, held, hel
 use Rattle.cache_levels.specs.Sound.{AreSound}
 use Rattle.cache_levels.specs.declared.levels.Evicted.{Evicted}
 use Rattle.cache_levels.specs.declared.levels.LineCopy.{LineCopy}
+use Rattle.cache_levels.specs.Slots.{room_at}
 use Rattle.memory_contracts.specs.Protocol.Awaited.{is_leaving}
 use Rattle.memory_contracts.specs.Protocol.Lines.{Copy}
 use Rattle.memory_contracts.specs.Protocol.Messages.{Put, get}
 use Rattle.memory_contracts.specs.Protocol.NodeTable.{evicted, granted, may_start, put_back}
-use Rattle.memory_contracts.specs.Said.{Mail}
+use Rattle.memory_contracts.specs.Letters.{Mail}
 use Rattle.memory_contracts.specs.Store.{Wish}
 use Rattle.memory_contracts.specs.Updates.{with_at}
 use Rattle.miss_registers.specs.Misses.{MissView, register_of, registers_full, victim_of, with_register}
@@ -27,7 +28,7 @@ use Rattle.node_memory.proofs.Below.{CacheLaws}
 use Rattle.node_memory.proofs.Fits.{AreFit, IsFit, fit-sound, fit-with_at, owned_in, sound-with}
 use Rattle.node_memory.proofs.Held.{AreCopies, absent-is, copies_of, held-copy, held-is, leaving-is}
 use Rattle.node_memory.proofs.LineViews.{LineView, kept, line_view, with_at-map, with_at-same}
-use Rattle.node_memory.proofs.Starting.{Leaves, asked, eqb-turned, fit-asked, fit-gone, gone, leaves, none-is, room_at, told_of, view-held_way, view-room, without}
+use Rattle.node_memory.proofs.Starting.{Leaves, asked, eqb-turned, fit-asked, fit-gone, gone, leaves, none-is, told_of, view-held_way, view-room, without}
 
 -- ---- which wishes start
 

@@ -2,23 +2,10 @@
 use Rattle.std.proofs.Common.{◌≡◌, ℕ, suc, ◌+◌, ◌<◌, ◌≤◌, nat_le, Bool, true, false, cond, List, [], ◌∷◌, ◌++◌, length, refl, arith}
 use Rattle.std.proofs.lemmas.Bool.{and_from, and_parts, leb-false, leb-true, le-leb}
 use Rattle.cache_levels.specs.Levels.{LevelsView}
+use Rattle.node_memory.specs.Fetched.{before-tail, left}
 use Rattle.node_memory.specs.Nodes.{Coming}
 use Rattle.node_memory.specs.Sound.{AreBefore, are_rising}
 use Rattle.node_memory.specs.Starting.{arrive, is_due, near_if_held}
-
--- ---- those that are left
-
--- what a list of lines has, if it is left of one in which each has it
-left : (latency now : ℕ) (P : List Coming → Type 0) → ((c : Coming) (cs : List Coming) → P (c ∷ cs) → P cs) → (cs : List Coming) (levels : LevelsView) → P cs → P (arrive latency now cs levels).coming
-left latency now P tail [] levels all = all
-left latency now P tail (c ∷ cs) levels all = by (is_due latency now c) (left latency now P tail cs (near_if_held c.line levels) (tail c cs all))
-  where
-    by : (b : Bool) → P (arrive latency now cs (near_if_held c.line levels)).coming → P (cond b (arrive latency now cs (near_if_held c.line levels)) (record { levels = levels; coming = c ∷ cs })).coming
-    by true rest = rest
-    by false rest = all
-
-before-tail : (now : ℕ) (c : Coming) (cs : List Coming) → AreBefore now (c ∷ cs) → AreBefore now cs
-before-tail now c cs before = λ k d below. before (suc k) d (omega (arith, below))
 
 before-head : (now : ℕ) (c : Coming) (cs : List Coming) → AreBefore now (c ∷ cs) → c.since < now
 before-head now c cs before = before 0 c (omega arith)
@@ -37,9 +24,6 @@ rising-tail c cs rising =
 
 pub arrive-rising : (latency now : ℕ) (cs : List Coming) (levels : LevelsView) → are_rising 0 cs ≡ true → are_rising 0 (arrive latency now cs levels).coming ≡ true
 arrive-rising latency now = left latency now (λ cs. are_rising 0 cs ≡ true) rising-tail
-
-pub arrive-before : (latency now : ℕ) (cs : List Coming) (levels : LevelsView) → AreBefore now cs → AreBefore now (arrive latency now cs levels).coming
-arrive-before latency now = left latency now (AreBefore now) (before-tail now)
 
 -- ticks that rise to below one are no more than there are
 rising-few : (from now : ℕ) (cs : List Coming) → from ≤ now → are_rising from cs ≡ true → AreBefore now cs → from + length cs ≤ now

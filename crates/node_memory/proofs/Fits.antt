@@ -5,9 +5,10 @@ use Rattle.cache_sets.specs.Caches.{reserved_slot}
 use Rattle.cache_levels.specs.Levels.{LevelsView}
 use Rattle.cache_levels.specs.Sound.{AreSound}
 use Rattle.cache_levels.specs.declared.levels.LineCopy.{LineCopy}
+use Rattle.cache_levels.specs.Slots.{fill_slot}
 use Rattle.memory_contracts.specs.Protocol.Messages.{Message, Inv, Recall, Grant}
 use Rattle.memory_contracts.specs.Protocol.NodeTable.{node_takes}
-use Rattle.memory_contracts.specs.Said.{Letter, Mail}
+use Rattle.memory_contracts.specs.Letters.{Letter, Mail}
 use Rattle.memory_contracts.specs.Store.{Wish, most_wishes}
 use Rattle.memory_contracts.specs.Updates.{with_at}
 use Rattle.miss_registers.specs.Misses.{MissView}
@@ -18,7 +19,7 @@ use Rattle.node_memory.specs.declared.table.Change.{Change}
 use Rattle.node_memory.specs.declared.table.Change.TheVariants.{Lose, Share, Fill, EmptySlot, FreeSlot}
 use Rattle.node_memory.proofs.Below.{CacheLaws}
 use Rattle.node_memory.proofs.Held.{AreCopies, copies_of, held-copy}
-use Rattle.node_memory.proofs.LineViews.{LineView, changed, fill_slot, kept, line_view, unowned, view-changed}
+use Rattle.node_memory.proofs.LineViews.{LineView, changed, kept, line_view, unowned, view-changed}
 
 abbrev pub owned_in : Option LineCopy → Bool
 owned_in copy = option_map_or (λ copy. copy.owned) copy false

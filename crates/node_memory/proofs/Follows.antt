@@ -1,14 +1,11 @@
 -- What the calls of a node mean to the protocol.
-use Rattle.std.proofs.Common.{◌≡◌, ℕ, suc, ◌+◌, ◌<◌, ◌%◌, Bool, true, false, cond, List, [], ◌∷◌, ◌++◌, map, Option, Some, None, inl, inr, is_some, option_map, refl, sym, ap, subst, ◌∙◌, arith}
+use Rattle.std.proofs.Common.{◌≡◌, ℕ, suc, ◌%◌, Bool, true, false, cond, List, [], ◌∷◌, ◌++◌, map, Option, Some, None, inl, inr, is_some, option_map, refl, sym, ap, subst, ◌∙◌, arith}
 use Rattle.std.specs.List.{Contains}
-use Rattle.std.proofs.lemmas.List.Elements.{All-push}
 use Rattle.std.specs.Option.{option_map_or}
-use Rattle.rsim_base.specs.declared.memory.Line.{Line}
 use Rattle.rsim_base.specs.declared.memory.Size.{Size}
 use Rattle.cache_levels.specs.Bytes.{written_at}
 use Rattle.cache_levels.specs.Levels as level
 use Rattle.cache_levels.specs.Levels.{LevelsView, near, owned, touched_levels, touched_line, written}
-use Rattle.cache_levels.specs.declared.levels.Evicted.{Evicted}
 use Rattle.cache_levels.specs.declared.levels.LineCopy.{LineCopy}
 use Rattle.memory_contracts.specs.Protocol.Content.{bytes_of}
 use Rattle.memory_contracts.specs.Protocol.Lines.{Owned}
@@ -16,15 +13,14 @@ use Rattle.memory_contracts.specs.Protocol.NodeTable.{granted}
 use Rattle.memory_contracts.specs.Store.{IsLeftOf, Wish}
 use Rattle.memory_contracts.specs.Updates.{with_at}
 use Rattle.miss_registers.specs.Misses.{MissView, covers, register_of, victim_of}
+use Rattle.node_memory.specs.Fetched.{started}
 use Rattle.node_memory.specs.Laws.{BeginFollows, HeldFollows, MessageFollows, ReadFollows, WishesLeave, WriteFollows}
-use Rattle.node_memory.specs.Nodes.{Coming, NodeView, awaits, copy_of, kept_as, line_at, mail}
+use Rattle.node_memory.specs.Nodes.{NodeView, awaits, copy_of, kept_as, line_at, mail}
 use Rattle.node_memory.specs.Rows.{change_at, step_at}
 use Rattle.node_memory.specs.Sides.{Begins, Side, side_of}
-use Rattle.node_memory.specs.Sound.{AreBefore}
-use Rattle.node_memory.specs.Starting.{Begun, arrived, asks, begins, evicts, first_begins, has_to_wait, is_absent, meets, met, starts, starts_absent, starts_shared, uncovered}
+use Rattle.node_memory.specs.Starting.{Begun, arrived, first_begins, has_to_wait, meets, met, starts, uncovered}
 use Rattle.node_memory.proofs.Beginning.{MayBegin, starts-follow}
 use Rattle.node_memory.proofs.Below.{CacheLaws}
-use Rattle.node_memory.proofs.Fetched.{arrive-before}
 use Rattle.node_memory.proofs.Fits.{AreFit, fit-sound, rows, view-message}
 use Rattle.node_memory.proofs.Held.{AreCopies, copies_of, held-copy, held-is}
 use Rattle.node_memory.proofs.LineViews.{LineView, changed, kept, line_view, with_at-map}
@@ -139,19 +135,6 @@ left-uncovered misses left (w ∷ ws) is = by (covers (register_of misses w.line
     by true is rest = inl (rest is)
     by false is rest = is
 
--- a start leaves the wishes, and the lines on their way
-started : (w : Wish) (v : NodeView) → ((starts w v).after.wishes ≡ v.wishes) × ((starts w v).after.coming ≡ v.coming)
-started w v = by (is_absent (copy_of v w.line)) (level.evicted w.line v.levels)
-  where
-    leaving : (e : Evicted) (line : Option Line) → let after = asks w.line w.own (evicts w.line (record e { line = line }) v) in (after.wishes ≡ v.wishes) × (after.coming ≡ v.coming)
-    leaving e None = (refl, refl)
-    leaving e (Some line) = (refl, refl)
-
-    by : (b : Bool) (e : Option Evicted) → let after = (cond b (starts_absent w e v) (starts_shared w v)).after in (after.wishes ≡ v.wishes) × (after.coming ≡ v.coming)
-    by true None = (refl, refl)
-    by true (Some e) = leaving e e.line
-    by false e = (refl, refl)
-
 first-left : (now : ℕ) (ws : List Wish) (v : NodeView) → IsLeftOf (first_begins now ws v).after.wishes ws
 first-left now [] v = refl
 first-left now (w ∷ ws) v = by (meets w.own (copy_of v w.line)) (has_to_wait w v)
@@ -166,26 +149,3 @@ first-left now (w ∷ ws) v = by (meets w.own (copy_of v w.line)) (has_to_wait w
 
 pub wishes-leave : WishesLeave
 wishes-leave now v = left-uncovered v.misses (first_begins now (uncovered v.misses v.wishes) (arrived now v)).after.wishes v.wishes (first-left now (uncovered v.misses v.wishes) (arrived now v))
-
--- ---- lines on their way were fetched before the next tick
-
-before-next : (now : ℕ) (cs : List Coming) → AreBefore now cs → AreBefore (now + 1) cs
-before-next now cs before = λ k d below. omega (arith, before k d below)
-
-first-before : (now : ℕ) (ws : List Wish) (v : NodeView) → AreBefore now v.coming → AreBefore (now + 1) (first_begins now ws v).after.coming
-first-before now [] v before = before-next now v.coming before
-first-before now (w ∷ ws) v before = by (meets w.own (copy_of v w.line)) (has_to_wait w v)
-  where
-    fetched : Coming
-    fetched = record { line = w.line; since = now }
-
-    waiting : Begun
-    waiting = record { answer = false; after = record v { wishes = w ∷ ws }; lost = [] }
-
-    by : (b d : Bool) → AreBefore (now + 1) (cond b (met now w (record v { wishes = ws })) (cond d waiting (starts w (record v { wishes = ws })))).after.coming
-    by true d = All-push (λ (c : Coming). c.since < now + 1) v.coming fetched (before-next now v.coming before) (omega arith)
-    by false true = before-next now v.coming before
-    by false false = subst (λ cs. AreBefore (now + 1) cs) (sym (started w (record v { wishes = ws })).1) (before-next now v.coming before)
-
-pub begins-before : (now : ℕ) (v : NodeView) → AreBefore now v.coming → AreBefore (now + 1) (begins now v).after.coming
-begins-before now v before = first-before now (uncovered v.misses v.wishes) (arrived now v) (arrive-before v.latency now v.coming v.levels before)

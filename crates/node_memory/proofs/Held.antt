@@ -1,13 +1,13 @@
 -- A line is held exactly where there is a copy of it.
 use Rattle.std.proofs.Common.{◌≡◌, ℕ, ◌+◌, ◌<◌, ◌≤◌, nat_lt, Bool, true, false, not, ◌&&◌, ◌||◌, List, length, Option, Some, None, is_some, refl, sym, ap, ◌∙◌, arith}
-use Rattle.std.specs.List.{slice_get}
-use Rattle.std.specs.Option.{option_and_then, option_map_or}
+use Rattle.std.specs.Option.{option_map_or}
 use Rattle.std.proofs.lemmas.Bool.{le-ltb}
 use Rattle.std.proofs.lemmas.Option.{slice_get-get_or}
 use Rattle.cache_sets.specs.Caches.{slot_count, slot_of}
 use Rattle.cache_sets.specs.Sound.{IsSound}
 use Rattle.cache_levels.specs.Levels as level
 use Rattle.cache_levels.specs.Levels.{LevelsView, copy_at, evicted, held, no_copy}
+use Rattle.cache_levels.specs.Slots.{copy_in}
 use Rattle.cache_levels.specs.Sound.{AreSound}
 use Rattle.cache_levels.specs.declared.levels.LineCopy.{LineCopy}
 use Rattle.memory_contracts.specs.Protocol.Awaited.{is_leaving}
@@ -17,9 +17,6 @@ use Rattle.miss_registers.specs.Misses.{covers, registers_full, victim_of}
 use Rattle.node_memory.specs.Nodes.{NodeView, awaits, copy_of, kept_as, most_mails}
 use Rattle.node_memory.specs.Starting.{has_to_wait, is_absent, lacks_way, meets}
 use Rattle.node_memory.proofs.Below.{CacheLaws}
-
-abbrev pub copy_in : List LineCopy → Option ℕ → Option LineCopy
-copy_in copies slot = option_and_then (slice_get copies) slot
 
 -- what is true of the second level, and of all caches
 pub record AreCopies (levels : LevelsView) : Type 0 where

@@ -8,7 +8,6 @@ pub mod Held
 pub mod LineViews
 pub mod Mails
 pub mod Reading
-pub mod Recency
 pub mod Starting
 pub mod Touching
 pub mod Victims

@@ -1,12 +1,12 @@
 -- What a node has of one line, and how a message changes it.
-use Rattle.std.proofs.Common.{◌≡◌, ◌≢◌, ℕ, ◌==◌, Bool, true, false, cond, List, slice_set, Option, Some, None, option_map, refl, ap, ◌∙◌}
-use Rattle.std.specs.Option.{option_map_or}
+use Rattle.std.proofs.Common.{◌≡◌, ◌≢◌, ℕ, ◌==◌, Bool, true, false, cond, List, Option, Some, None, option_map, refl, ap, ◌∙◌}
 use Rattle.std.proofs.lemmas.Bool.{eqb-true}
-use Rattle.cache_sets.specs.Caches.{filled, reserved_slot}
+use Rattle.cache_sets.specs.Caches.{reserved_slot}
 use Rattle.cache_levels.specs.Levels as level
 use Rattle.cache_levels.specs.Levels.{LevelsView, filled_line, lost, shared, with_line}
 use Rattle.cache_levels.specs.Sound.{AreSound}
 use Rattle.cache_levels.specs.declared.levels.LineCopy.{LineCopy}
+use Rattle.cache_levels.specs.Slots.{fill_slot}
 use Rattle.memory_contracts.specs.Protocol.Lines.{Copy}
 use Rattle.memory_contracts.specs.Updates.{with_at}
 use Rattle.miss_registers.specs.Misses.{MissView, register_of, victim_of}
@@ -73,17 +73,6 @@ changed (Fill own bytes) x = record x { copy = Some (record { owned = own; bytes
 changed EmptySlot x = record x { slot = option_map (λ slot. None) x.slot }
 changed FreeSlot x = record x { slot = None }
 changed change x = x
-
--- the levels after a fill, by the slot that is reserved
-abbrev pub fill_slot : ℕ → Bool → List ℕ → LevelsView → Option ℕ → LevelsView
-fill_slot line own bytes levels slot =
-    option_map_or
-    (λ s. record levels {
-      first = with_line line levels.first;
-      second = filled s line levels.second;
-      copies = slice_set levels.copies s (record { owned = own; bytes = bytes });
-    })
-    slot levels
 
 filled-way : CacheLaws → (line l : ℕ) (own : Bool) (bytes : List ℕ) (levels : LevelsView) → AreSound levels → reserved_slot line levels.second ≢ None → reserved_slot l (filled_line line own bytes levels).second ≡ with_at (λ k. reserved_slot k levels.second) line None l
 filled-way laws line l own bytes levels sound some = by (reserved_slot line levels.second) refl

@@ -5,10 +5,10 @@ use Rattle.rsim_base.specs.declared.memory.Line.{Line}
 use Rattle.cache_levels.specs.Levels.{LevelsView, with_room}
 use Rattle.cache_levels.specs.declared.levels.Evicted.{Evicted}
 use Rattle.memory_contracts.specs.Protocol.Messages as Says
-use Rattle.memory_contracts.specs.Said.{Mail}
+use Rattle.memory_contracts.specs.Letters.{Mail}
 use Rattle.miss_registers.specs.Misses.{MissView, with_register}
 use Rattle.node_memory.specs.Nodes.{NodeView, mail}
-use Rattle.node_memory.specs.Noted.{mail_of, posts_for}
+use Rattle.node_memory.specs.NodeParts.{mail_of, posts_for}
 use Rattle.node_memory.specs.Starting.{asks, evicts, slots_with, with_put}
 use Rattle.node_memory.specs.declared.outbox.Post.{Post}
 use Rattle.node_memory.specs.declared.word.Word.TheVariants.{Get, Put}

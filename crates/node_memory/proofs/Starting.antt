@@ -1,6 +1,5 @@
 -- A wish starts: its line has a way and a register, and another line may leave for it.
 use Rattle.std.proofs.Common.{◌≡◌, ℕ, ◌==◌, Bool, true, false, cond, List, Option, Some, None, is_some, option_map, refl, sym, ap, ◌∙◌, ⊎_elim}
-use Rattle.std.specs.Option.{option_map_or}
 use Rattle.std.proofs.lemmas.Bool.{cases_eq, eq-eqb, ne_eqb}
 use Rattle.rsim_base.specs.declared.memory.Line.{Line}
 use Rattle.cache_sets.specs.Caches.{reserved_slot, room_for, slot_of, with_reserved}
@@ -10,12 +9,13 @@ use Rattle.cache_levels.specs.Levels as level
 use Rattle.cache_levels.specs.Levels.{LevelsView, copy_at, evicted_as, held_way, with_room, without_victim}
 use Rattle.cache_levels.specs.declared.levels.Evicted.{Evicted}
 use Rattle.cache_levels.specs.declared.levels.LineCopy.{LineCopy}
+use Rattle.cache_levels.specs.Slots.{copy_in, room_at}
 use Rattle.memory_contracts.specs.Updates.{with_at}
 use Rattle.miss_registers.specs.Misses.{MissView, register_of, victim_of, with_register, with_victim}
 use Rattle.miss_registers.specs.OneLine.{register_of-with_register, victim_of-with_victim}
 use Rattle.node_memory.specs.Starting.{slots_with}
 use Rattle.node_memory.proofs.Fits.{AreFit, IsFit, owned_in}
-use Rattle.node_memory.proofs.Held.{AreCopies, copy-held, copy_in}
+use Rattle.node_memory.proofs.Held.{AreCopies, copy-held}
 use Rattle.node_memory.proofs.LineViews.{LineView, line_view, view-with_at, with_at-map, with_at-same}
 use Rattle.node_memory.proofs.Victims.{victim-leaves}
 
@@ -101,10 +101,6 @@ victim-kept q false victim bytes misses = with_at-same (victim_of misses) victim
 none-from : (b : Bool) (copies : List LineCopy) (slot : Option ℕ) → copy_in copies (cond b None slot) ≡ cond b None (copy_in copies slot)
 none-from true copies slot = refl
 none-from false copies slot = refl
-
--- the levels with room, by the way that there is
-abbrev pub room_at : ℕ → LevelsView → Option Way → LevelsView
-room_at line levels room = option_map_or (λ way. record levels { first = without_victim way.line levels.first; second = with_reserved line levels.second }) room levels
 
 pub view-room : (line l : ℕ) (own : Bool) (way : Way) (mark : Option ℕ) (levels : LevelsView) (misses : MissView) → AreCopies levels →
     reserved_slot line levels.second ≡ None → room_for line levels.second ≡ Some way → way.line ≡ mark →

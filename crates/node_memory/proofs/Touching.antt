@@ -9,6 +9,7 @@ use Rattle.cache_levels.specs.Bytes.{written_at}
 use Rattle.cache_levels.specs.Levels.{LevelsView, brought, held, touched_levels, touched_line, with_line, written}
 use Rattle.cache_levels.specs.Sound.{AreSound}
 use Rattle.cache_levels.specs.declared.levels.LineCopy.{LineCopy}
+use Rattle.cache_levels.specs.Slots.{copy_in}
 use Rattle.memory_contracts.specs.Updates.{with_at}
 use Rattle.miss_registers.specs.Misses.{MissView}
 use Rattle.node_memory.specs.Nodes.{Coming, NodeView, line_at}
@@ -16,9 +17,9 @@ use Rattle.node_memory.specs.Sound as node
 use Rattle.node_memory.specs.Starting.{arrive, is_due, near_if_held}
 use Rattle.node_memory.proofs.Below.{CacheLaws}
 use Rattle.node_memory.proofs.Fits.{AreFit, IsFit, fit-sound, fit-with_at, sound-with}
-use Rattle.node_memory.proofs.Held.{AreCopies, copy_in}
+use Rattle.node_memory.proofs.Held.{AreCopies}
 use Rattle.node_memory.proofs.LineViews.{LineView, line_view, view-with_at, with_at-same}
-use Rattle.node_memory.proofs.Recency.{IsSound-touched, slot_count-touched}
+use Rattle.cache_sets.specs.Recency.{IsSound-touched, slot_count-touched}
 
 -- every line looks the same
 pub record AreAlike (old new : LevelsView) : Type 0 where

@@ -1,13 +1,8 @@
--- Wishes that are covered, and those that are left after a register has covered some.
-use Rattle.std.proofs.Common.{◌≡◌, ℕ, ◌≤◌, Bool, true, false, ◌||◌, cond, List, [], ◌∷◌, length, map, refl, ap, arith}
-use Rattle.std.specs.List.{list_any}
+-- Wishes that are left after a register has covered some.
+use Rattle.std.proofs.Common.{ℕ, ◌≤◌, Bool, true, false, cond, List, [], ◌∷◌, length, arith}
 use Rattle.memory_contracts.specs.Store.{Wish}
 use Rattle.miss_registers.specs.Misses.{MissView, covers, register_of}
 use Rattle.node_memory.specs.Starting.{uncovered}
-
-pub any-map : {X Y : Type 0} (p : Y → Bool) (f : X → Y) (xs : List X) → list_any p (map f xs) ≡ list_any (λ x. p (f x)) xs
-any-map p f [] = refl
-any-map p f (x ∷ xs) = ap (λ b. p (f x) || b) (any-map p f xs)
 
 pub uncovered-few : (misses : MissView) (ws : List Wish) (most : ℕ) → length ws ≤ most → length (uncovered misses ws) ≤ most
 uncovered-few misses [] most few = few

@@ -4,7 +4,7 @@ use Rattle.rsim_base.specs.declared.memory.Size.{Size}
 use Rattle.memory_contracts.specs.Protocol.Content.{bytes_of}
 use Rattle.memory_contracts.specs.Protocol.Lines.{Owned}
 use Rattle.memory_contracts.specs.Protocol.NodeTable.{is_held}
-use Rattle.memory_contracts.specs.Said.{Letter}
+use Rattle.memory_contracts.specs.Letters.{Letter}
 use Rattle.memory_contracts.specs.Store.{IsLeftOf}
 use Rattle.memory_contracts.specs.Updates.{with_at}
 use Rattle.cache_levels.specs.Bytes.{written_at}

@@ -1,7 +1,8 @@
 pub mod Laws
 pub mod NodeViews
 pub mod Nodes
-pub mod Noted
+pub mod Fetched
+pub mod NodeParts
 pub mod Rows
 pub mod Sides
 pub mod Sound

@@ -1,6 +1,6 @@
 -- A node as its whole state.
 use Rattle.node_memory.specs.Nodes.{NodeView}
-use Rattle.node_memory.specs.Noted.{node_with}
+use Rattle.node_memory.specs.NodeParts.{node_with}
 use Rattle.node_memory.specs.Sound.{IsSound}
 use Rattle.node_memory.specs.declared.node.NodeMemory.{NodeMemory}
 

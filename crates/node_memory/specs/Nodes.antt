@@ -11,7 +11,7 @@ use Rattle.memory_contracts.specs.Protocol.Content.{bytes_of}
 use Rattle.memory_contracts.specs.Protocol.Lines.{Copy, Absent, Evicting, Emptied}
 use Rattle.memory_contracts.specs.Protocol.Messages.{Message}
 use Rattle.memory_contracts.specs.Protocol.NodeTable.{granted}
-use Rattle.memory_contracts.specs.Said.{Mail}
+use Rattle.memory_contracts.specs.Letters.{Mail}
 use Rattle.memory_contracts.specs.Store.{Wish, covers, most_wishes, value_at}
 use Rattle.cache_levels.specs.Levels as level
 use Rattle.cache_levels.specs.Levels.{LevelsView, empty_levels, near, owned, touched_levels, written}

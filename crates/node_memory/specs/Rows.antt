@@ -3,7 +3,7 @@ use Rattle.std.specs.Prelude.{◌≢◌, ⊤, IsTrue, None, ℕ, Bool, true, fal
 use Rattle.memory_contracts.specs.Protocol.Lines.{Copy, Absent, Shared, Owned, Evicting, Emptied}
 use Rattle.memory_contracts.specs.Protocol.Messages.{Message, Inv, Recall, Grant, PutAck}
 use Rattle.memory_contracts.specs.Protocol.NodeTable.{NodeStep, node_takes}
-use Rattle.memory_contracts.specs.Said.{Letter}
+use Rattle.memory_contracts.specs.Letters.{Letter}
 use Rattle.cache_sets.specs.Caches.{reserved_slot}
 use Rattle.cache_levels.specs.Levels.{LevelsView, filled_line, held, lost, shared}
 use Rattle.miss_registers.specs.Misses.{MissView, with_emptied, without_register, without_victim}

@@ -4,7 +4,7 @@ use Rattle.std.specs.List.{Contains}
 use Rattle.memory_contracts.specs.Protocol.Lines.{Copy}
 use Rattle.memory_contracts.specs.Protocol.Messages.{Message, get}
 use Rattle.memory_contracts.specs.Protocol.NodeTable.{NodeStep, evicted, is_held, may_start, node_takes, put_back}
-use Rattle.memory_contracts.specs.Said.{Letter, Mail}
+use Rattle.memory_contracts.specs.Letters.{Letter, Mail}
 use Rattle.memory_contracts.specs.Store.{Wish}
 use Rattle.memory_contracts.specs.Updates.{with_at}
 use Rattle.node_memory.specs.Nodes.{NodeView, awaits, copy_of}

@@ -1,5 +1,6 @@
 -- What is true of every node.
 use Rattle.std.specs.Prelude.{◌≡◌, ℕ, suc, ◌≤◌, ◌<◌, nat_le, ◌&&◌, Bool, All, true, false, List, [], ◌∷◌, length, None, is_some}
+use Rattle.rsim_base.specs.Limits.{max_processors}
 use Rattle.memory_contracts.specs.Store.{most_wishes}
 use Rattle.cache_levels.specs.Levels.{held, owned}
 use Rattle.cache_levels.specs.Sound.{AreSound}
@@ -18,7 +19,7 @@ AreBefore now coming = All (λ c. c.since < now) coming
 
 pub record IsSound (v : NodeView) : Type 0 where
   pub nodes : 0 < v.nodes
-  pub few : v.nodes ≤ 64
+  pub few : v.nodes ≤ max_processors
   pub latency : v.latency ≤ 64
   pub levels : AreSound v.levels
   -- a line is awaited exactly while a way is reserved for it

@@ -3,7 +3,7 @@ use Rattle.std.specs.Prelude.{◌≡◌, Bool}
 use Rattle.memory_contracts.specs.Protocol.Lines.{Copy}
 use Rattle.memory_contracts.specs.Protocol.Messages.{Message}
 use Rattle.memory_contracts.specs.Protocol.NodeTable.{node_takes}
-use Rattle.node_memory.specs.Noted.{words_of}
+use Rattle.node_memory.specs.NodeParts.{words_of}
 use Rattle.node_memory.specs.Rows.{change_by}
 use Rattle.node_memory.specs.declared.table.Row.{Row}
 

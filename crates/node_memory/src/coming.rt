@@ -8,14 +8,14 @@ use cache_levels::Levels;
 use rsim_base::Line;
 
 /// A line on its way, and the tick of the wish that fetches it.
-#[derive(Clone, Copy, Debug, Default, PartialEq, Eq)]
+#[derive(Clone, Copy, Default, PartialEq, Eq)]
 pub struct Fetched {
     pub line: Line,
     pub since: u64,
 }
 
 impl Fetched {
-    ghost use Rattle.node_memory.specs.Noted.{coming_of};
+    ghost use Rattle.node_memory.specs.NodeParts.{coming_of};
     ghost use Rattle.node_memory.specs.Starting.{is_due};
 
     /// Whether so many ticks have passed.
@@ -36,7 +36,7 @@ pub struct Coming {
 }
 
 impl Coming {
-    ghost use Rattle.node_memory.specs.Noted.{coming_in, coming_of};
+    ghost use Rattle.node_memory.specs.NodeParts.{coming_in, coming_of};
     ghost use Rattle.node_memory.specs.Starting.{arrive, is_first_due};
 
     /// No line.

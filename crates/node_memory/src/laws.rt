@@ -5,8 +5,8 @@ ghost use Rattle.cache_sets.specs.Apart.{SoundIsApart};
 ghost use Rattle.cache_sets.specs.Lookups.{DropLooksUp, FillLooksUp, HoldLooksUp, ReserveLooksUp, TouchLooksUp};
 ghost use Rattle.node_memory.specs.Laws.{BeginFollows, HeldFollows, MessageFollows, ReadFollows, WishFollows, WishesLeave, WriteFollows};
 
-use cache_levels::copies_follow;
-use cache_sets::{lines_are_apart, look_ups_follow};
+use cache_levels::laws as level_laws;
+use cache_sets::laws as set_laws;
 
 /// What each call does to the copies, the registers and the messages of a node, line by line: what the protocol's table
 /// says, and nothing else.
@@ -34,7 +34,7 @@ pub(crate) fn caches_follow()
     ensures changed { ChangeCopies }
     ensures lost { LoseCopies }
 {
-    lines_are_apart();
-    look_ups_follow();
-    copies_follow();
+    set_laws::lines_are_apart();
+    set_laws::look_ups_follow();
+    level_laws::copies_follow();
 }

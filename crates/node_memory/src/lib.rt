@@ -2,16 +2,13 @@
 #![tactic(auto)]
 
 mod coming;
-mod laws;
+pub mod laws;
 mod lines;
 mod node;
 mod outbox;
 mod table;
-#[cfg(test)]
-mod tests;
 mod value;
 mod wish_list;
 mod word;
 
-pub use laws::tables_follow;
 pub use node::NodeMemory;

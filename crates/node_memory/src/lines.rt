@@ -6,7 +6,7 @@ ghost use Rattle.cache_levels.specs.Sound.{AreSound};
 ghost use Rattle.cache_sets.specs.Caches.{reserved_slot};
 ghost use Rattle.miss_registers.specs.Misses.{register_of, registers_full, victim_of, with_register};
 
-use crate::laws::caches_follow;
+use crate::laws;
 use crate::table::{Change, NodeCopy};
 use cache_levels::{Evicted, Levels};
 use machine_config::Config;
@@ -24,7 +24,7 @@ pub struct Lines {
 
 impl Lines {
     ghost use Rattle.node_memory.specs.Nodes.{kept_as, no_misses};
-    ghost use Rattle.node_memory.specs.Noted.{copy_in};
+    ghost use Rattle.node_memory.specs.NodeParts.{copy_in};
     ghost use Rattle.node_memory.specs.Rows.{Allows, levels_after, misses_after};
     ghost use Rattle.memory_contracts.specs.Protocol.Awaited.{is_leaving};
     ghost use Rattle.node_memory.specs.Starting.{lacks_way, meets, slots_with};
@@ -51,7 +51,7 @@ impl Lines {
         ensures held { result ≡ level.held line.0 self.now.levels }
         ensures copy { result ≡ is_some (level.copy_of line.0 self.now.levels) }
     {
-        caches_follow();
+        laws::caches_follow();
         self.levels.hold(line)
     }
 

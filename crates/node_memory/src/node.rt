@@ -3,18 +3,18 @@ ghost use Rattle.std.specs.Prelude.{◌≡◌, ◌+◌, ◌%◌, ◌<◌, ◌≤
 ghost use Rattle.arrayvec.specs.ArrayVec.{array_vec_len};
 ghost use Rattle.rsim_base.specs.Bytes.{count_of};
 ghost use Rattle.machine_config.specs.Allowed.{IsAllowed};
-ghost use Rattle.memory_contracts.specs.Said.{letter_of, said, told};
+ghost use Rattle.memory_contracts.specs.Letters.{letter_of, said, told};
 ghost use Rattle.memory_contracts.specs.Parts.{wish_of};
 ghost use Rattle.cache_levels.specs.Levels.{held, near, owned};
 ghost use Rattle.miss_registers.specs.Misses.{register_of, registers_full, with_register};
 ghost use Rattle.node_memory.specs.Nodes.{left_from};
 ghost use Rattle.node_memory.specs.Starting.{lines_of};
-ghost use Rattle.node_memory.specs.Noted.{node_with, posts_for};
+ghost use Rattle.node_memory.specs.NodeParts.{node_with, posts_for};
 ghost use Rattle.node_memory.specs.Sound.{AreBefore, IsSound};
 ghost use Rattle.node_memory.specs.declared.word.Word.TheVariants.{Get};
 
 use crate::coming::Coming;
-use crate::laws::caches_follow;
+use crate::laws;
 use crate::lines::Lines;
 use crate::outbox::Outbox;
 use crate::table::Row;
@@ -36,7 +36,7 @@ pub struct NodeMemory {
     nodes: u32,
     latency: u32,
     line_bytes: u64,
-    pub(crate) lines: Lines,
+    lines: Lines,
     wishes: WishList,
     coming: Coming,
     outbox: Outbox,
@@ -86,7 +86,7 @@ impl NodeMemory {
         ensures after { node_of self.new ≡ after_message (letter_of m.now) (node_of self.old) }
         ensures lost { lost.new.items ≡ lost.old.items ++ left_from (node_of self.old).at (lost_at (letter_of m.now) (node_of self.old)) }
     {
-        caches_follow();
+        laws::caches_follow();
         let copy = self.lines.copy(m.line);
         let row = Row::at(m, &copy);
         self.lines.change(m.line, &row.change);
@@ -116,7 +116,7 @@ impl NodeMemory {
     fn bring_near(&mut self, now: u64)
         ensures { node_of self.new ≡ arrived now (node_of self.old) }
     {
-        caches_follow();
+        laws::caches_follow();
         self.coming
             .arrive(&mut self.lines.levels, self.latency, now);
     }
@@ -184,7 +184,7 @@ impl NodeMemory {
         requires held { IsTrue (held wish.line.0 (node_of self.old).levels) }
         ensures { node_of self.new ≡ (starts_shared (wish_of wish) (node_of self.old)).after }
     {
-        caches_follow();
+        laws::caches_follow();
         self.lines.levels.hold_way(wish.line);
         ask(&mut self.lines.misses, &mut self.outbox, wish);
     }
@@ -199,7 +199,7 @@ impl NodeMemory {
         ensures after { node_of self.new ≡ (starts (wish_of wish) (node_of self.old)).after }
         ensures lost { lost.new.items ≡ lost.old.items ++ left_from (node_of self.old).at (starts (wish_of wish) (node_of self.old)).lost }
     {
-        caches_follow();
+        laws::caches_follow();
         let Some(evicted) = self.lines.make_room(wish.line) else {
             return false;
         };
@@ -215,7 +215,7 @@ impl NodeMemory {
         ensures value { result ≡ read_of (node_of self.old) a.0 n }
         ensures after { node_of self.new ≡ after_read a.0 (node_of self.old) }
     {
-        caches_follow();
+        laws::caches_follow();
         let line = line_of(a, self.line_bytes);
         if !self.lines.levels.near(line) {
             return None;
@@ -232,7 +232,7 @@ impl NodeMemory {
         ensures value { result ≡ owned (line_at (node_of self.old) a.0) (node_of self.old).levels }
         ensures after { node_of self.new ≡ after_write a.0 n v (node_of self.old) }
     {
-        caches_follow();
+        laws::caches_follow();
         let line = line_of(a, self.line_bytes);
         if !self.lines.levels.own(line) {
             return false;
@@ -270,6 +270,13 @@ impl NodeMemory {
         ensures { result ≡ owned line.0 (node_of self.now).levels }
     {
         self.lines.levels.own(line)
+    }
+
+    /// Whether a line is awaited: it was asked for, and has not come.
+    pub fn is_awaited(&self, line: Line) -> bool
+        ensures { result ≡ awaits (node_of self.now) line.0 }
+    {
+        self.lines.misses.merge(line, false)
     }
 
     /// The oldest message, with the node that it is for, if there is one.

@@ -2,7 +2,7 @@
 ghost use Rattle.std.specs.Prelude.{◌≡◌, None, false};
 ghost use Rattle.memory_contracts.specs.Protocol.Messages as Says;
 ghost use Rattle.memory_contracts.specs.Protocol.NodeTable.{node_takes};
-ghost use Rattle.memory_contracts.specs.Said.{said};
+ghost use Rattle.memory_contracts.specs.Letters.{said};
 
 use crate::word::{LineBytes, Word};
 use memory_contracts::{Message, MsgKind};
@@ -44,7 +44,7 @@ pub struct Row {
 }
 
 impl Row {
-    ghost use Rattle.node_memory.specs.Noted.{copy_in};
+    ghost use Rattle.node_memory.specs.NodeParts.{copy_in};
     ghost use Rattle.node_memory.specs.TableRows.{IsRow};
     ghost use Rattle.node_memory.specs.declared.table.Change.TheVariants.{Nothing};
 

@@ -2,7 +2,7 @@
 ghost use Rattle.std.specs.Prelude.{◌≡◌, IsTrue, drop, nat_lt, ◌<◌, ◌≤◌, ◌++◌, ◌∷◌, [], length, map, option_map, slice_get};
 ghost use Rattle.std.specs.List.{list_any};
 ghost use Rattle.memory_contracts.specs.Parts.{wish_of};
-ghost use Rattle.memory_contracts.specs.Store.{covers};
+ghost use Rattle.memory_contracts.specs.Store.{covers, most_wishes};
 
 use arrayvec::ArrayVec;
 use memory_contracts::Wanted;
@@ -19,7 +19,7 @@ pub struct WishList {
 }
 
 impl WishList {
-    ghost use Rattle.node_memory.specs.Noted.{wishes_in};
+    ghost use Rattle.node_memory.specs.NodeParts.{wishes_in};
     ghost use Rattle.node_memory.specs.Starting.{is_first_covered, uncovered};
 
     /// No wishes.
@@ -33,7 +33,7 @@ impl WishList {
 
     /// Whether there is a place for one more.
     pub fn has_place(&self) -> bool
-        ensures { result ≡ nat_lt (length (wishes_in self.now)) 16 }
+        ensures { result ≡ nat_lt (length (wishes_in self.now)) most_wishes }
     {
         self.list.len() < MOST_WISHES
     }
@@ -62,7 +62,7 @@ impl WishList {
 
     /// Puts a wish behind the others.
     pub fn push(&mut self, wish: Wanted)
-        requires { length (wishes_in self.old) < 16 }
+        requires { length (wishes_in self.old) < most_wishes }
         ensures { wishes_in self.new ≡ wishes_in self.old ++ wish_of wish ∷ [] }
     {
         self.list.push(wish);

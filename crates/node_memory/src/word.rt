@@ -1,12 +1,12 @@
 // What a node says about a line.
 ghost use Rattle.std.specs.Prelude.{◌≡◌};
-ghost use Rattle.memory_contracts.specs.Said.{said};
+ghost use Rattle.memory_contracts.specs.Letters.{said};
 
 use memory_contracts::{Message, MsgKind};
-use rsim_base::{Line, Node};
+use rsim_base::{LINE_ROOM, Line, Node};
 
 /// The bytes of a line, in front; those behind them do not count.
-pub type LineBytes = [u8; 128];
+pub type LineBytes = [u8; LINE_ROOM];
 
 /// What a node says to the home of a line.
 #[derive(Clone, Copy)]
@@ -24,7 +24,7 @@ pub enum Word {
 }
 
 impl Word {
-    ghost use Rattle.node_memory.specs.Noted.{word_of};
+    ghost use Rattle.node_memory.specs.NodeParts.{word_of};
 
     /// The message from a node that says this about a line.
     pub fn message(&self, line: Line, from: Node) -> Message
@@ -38,7 +38,7 @@ impl Word {
             from,
             owned: false,
             kept: false,
-            bytes: [0; 128],
+            bytes: [0; LINE_ROOM],
         };
         match *self {
             Word::Get { own: true } => bare(MsgKind::GetM),

@@ -4,12 +4,8 @@
 
 mod axioms;
 mod counting;
-mod laws;
+pub mod laws;
 mod mask;
 
 pub use axioms::needs;
 pub use counting::Fences;
-pub use laws::models_are_nested;
-
-#[cfg(test)]
-mod tests;

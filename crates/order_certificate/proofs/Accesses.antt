@@ -11,7 +11,8 @@ use Rattle.rsim_base.specs.declared.memory.Kind.{Kind}
 use Rattle.rsim_base.specs.declared.memory.Kind.TheVariants.{Load, Store, Atomic}
 use Rattle.rsim_base.specs.declared.memory.Size.{Size}
 use Rattle.rsim_base.specs.declared.memory.Size.TheVariants.{B1, B2, B4, B8}
-use Rattle.order_certificate.specs.Certificate.{max_steps, IsInText}
+use Rattle.order_certificate.specs.Certificate.{IsInText}
+use Rattle.rsim_base.specs.Limits.{max_steps}
 use Rattle.order_certificate.specs.Fields.{after, digit_at, decimal_at, decimal_then, hex_then, value_then, letter_then, kind_of, size_of, access_at}
 use Rattle.order_certificate.specs.Hex.{hex}
 use Rattle.order_certificate.specs.OrderText.{kind_letter, value_text, value_or_dash, line}

@@ -3,7 +3,7 @@ use Rattle.std.proofs.Common.{◌≡◌, ℕ, suc, ◌+◌, ◌<◌, ◌≤◌, 
 use Rattle.std.specs.List.{AllByRecursion, flat_map}
 use Rattle.order_certificate.specs.declared.fault.TextFault.{TextFault}
 use Rattle.order_certificate.specs.declared.fault.TextFault.TheVariants.{BadLine, Truncated, TooMany}
-use Rattle.order_certificate.specs.Certificate.{max_steps}
+use Rattle.rsim_base.specs.Limits.{max_steps}
 use Rattle.order_certificate.specs.Fields.{ending_at, fault_at}
 use Rattle.order_certificate.specs.Reading.{pieces, ended, IsBody, IsHeading}
 use Rattle.order_certificate.proofs.Counts.{ending_body, ending_written}

@@ -2,7 +2,7 @@
 use Rattle.std.proofs.Common.{◌≡◌, ℕ, zero, suc, ◌+◌, ◌-◌, ◌<◌, ◌≤◌, List, [], ◌∷◌, ◌++◌, length, codes, decimal, Some, None, refl, sym, ap, ◌∙◌, subst, arith, append_assoc, append-nil}
 use Rattle.std.specs.List.{flat_map}
 use Rattle.std.proofs.lemmas.List.{append_cancel_right}
-use Rattle.order_certificate.specs.Certificate.{max_steps}
+use Rattle.rsim_base.specs.Limits.{max_steps}
 use Rattle.order_certificate.specs.Fields.{after, digit_at, count_at, counts_from, ending_at}
 use Rattle.order_certificate.specs.OrderText.{ending}
 use Rattle.order_certificate.specs.Reading.{AreCounts, IsEnding}

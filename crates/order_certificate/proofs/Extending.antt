@@ -1,7 +1,7 @@
 -- Bytes that are put behind others, in turn.
 use Rattle.std.proofs.Common.{◌≡◌, ℕ, List, [], ◌++◌, length, take, append_assoc, append-nil, sym, ap, ◌∙◌}
 use Rattle.std.proofs.Math.Seq.{take-append_seam}
-use Rattle.order_certificate.specs.Extended.{Extends}
+use Rattle.rsim_base.specs.Texts.{Extends}
 
 pub extends_by : (old new behind : List ℕ) → new ≡ old ++ behind → Extends old new
 extends_by old new behind e = record { behind = behind; is = e }

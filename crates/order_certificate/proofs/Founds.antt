@@ -4,7 +4,7 @@ use Rattle.std.specs.List.{AllByRecursion, flat_map}
 use Rattle.std.proofs.lemmas.Bool.Decides.{nat_tests}
 use Rattle.order_certificate.specs.declared.fault.TextFault.{TextFault}
 use Rattle.order_certificate.specs.declared.fault.TextFault.TheVariants.{BadLine, TooMany}
-use Rattle.order_certificate.specs.Certificate.{max_steps}
+use Rattle.rsim_base.specs.Limits.{max_steps}
 use Rattle.order_certificate.specs.Reading.{pieces, is_all, ended, IsBody, IsHeading}
 use Rattle.order_certificate.proofs.Bodies.{printed}
 use Rattle.order_certificate.proofs.Counts.{ending_body, ending_written}

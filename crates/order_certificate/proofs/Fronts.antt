@@ -3,7 +3,7 @@ use Rattle.std.proofs.Common.{◌≡◌, ℕ, ◌+◌, ◌≤◌, ◌⊎◌, inl
 use Rattle.std.specs.List.{AllByRecursion, flat_map}
 use Rattle.order_certificate.specs.declared.fault.TextFault.{TextFault}
 use Rattle.order_certificate.specs.declared.fault.TextFault.TheVariants.{Truncated}
-use Rattle.order_certificate.specs.Certificate.{max_steps}
+use Rattle.rsim_base.specs.Limits.{max_steps}
 use Rattle.order_certificate.specs.Reading.{pieces, AreCounts, IsBody, IsHeading}
 use Rattle.order_certificate.proofs.Bodies.{heading_taken, body_entry, body_end, printed}
 use Rattle.order_certificate.proofs.Counts.{ending_body, ending_written}

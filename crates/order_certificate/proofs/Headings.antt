@@ -4,7 +4,7 @@ use Rattle.std.specs.Option.{option_or}
 use Rattle.std.proofs.lemmas.Bool.Decides.{nat_tests}
 use Rattle.rsim_base.specs.declared.memory.Model.{Model}
 use Rattle.rsim_base.specs.declared.memory.Model.TheVariants.{Sc, Pc, Rc}
-use Rattle.order_certificate.specs.Certificate.{max_processors}
+use Rattle.rsim_base.specs.Limits.{max_processors}
 use Rattle.order_certificate.specs.Fields.{◌>>=◌, after, digit_at, decimal_then, model_in, model_at, processors_at}
 use Rattle.order_certificate.specs.OrderText.{model_name, heading}
 use Rattle.order_certificate.specs.Reading.{IsVersion, IsModel, IsProcessors}

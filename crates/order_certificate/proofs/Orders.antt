@@ -8,7 +8,8 @@ use Rattle.rsim_base.specs.declared.memory.Access.{Access}
 use Rattle.rsim_base.specs.declared.memory.Model.{Model}
 use Rattle.order_certificate.specs.declared.fault.TextFault.{TextFault}
 use Rattle.order_certificate.specs.declared.fault.TextFault.TheVariants.{BadLine, Truncated, TooMany, Memory}
-use Rattle.order_certificate.specs.Certificate.{CertificateView, IsInText, max_steps}
+use Rattle.order_certificate.specs.Certificate.{CertificateView, IsInText}
+use Rattle.rsim_base.specs.Limits.{max_steps}
 use Rattle.order_certificate.specs.Fields.{after, model_at, processors_at, access_at, ending_at, fault_at, HasHeading, HasLines, IsOverfull}
 use Rattle.order_certificate.specs.OrderText.{line}
 use Rattle.order_certificate.specs.Reading.{pieces, is_all, ended, IsModel, IsProcessors, IsAccess, IsBody, IsHeading, order_of, IsOrder, IsRead, Reads}

@@ -6,7 +6,8 @@ use Rattle.std.proofs.lemmas.List.Sums.{sum_by-cons}
 use Rattle.rsim_base.specs.declared.memory.Access.{Access}
 use Rattle.order_certificate.specs.declared.fault.TextFault.{TextFault}
 use Rattle.order_certificate.specs.declared.fault.TextFault.TheVariants.{Truncated}
-use Rattle.order_certificate.specs.Certificate.{CertificateView, IsCertificate, IsInText, text_of, max_steps}
+use Rattle.order_certificate.specs.Certificate.{CertificateView, IsCertificate, IsInText, text_of}
+use Rattle.rsim_base.specs.Limits.{max_steps}
 use Rattle.order_certificate.specs.OrderText.{line, heading, ending}
 use Rattle.order_certificate.specs.Reading.{pieces, AreCounts, order_of, IsRead, Reads}
 use Rattle.order_certificate.proofs.Accesses.{access_body, access_written}

@@ -2,17 +2,10 @@
 -- steps each processor retired.
 use Rattle.std.specs.Prelude.{◌≡◌, ℕ, ◌<◌, ◌≤◌, false, List, length, sum, slice_get, Some}
 use Rattle.rsim_base.specs.Accesses.{loads, stores}
+use Rattle.rsim_base.specs.Limits.{max_processors, max_steps}
 use Rattle.rsim_base.specs.declared.memory.Access.{Access}
 use Rattle.rsim_base.specs.declared.memory.Model.{Model}
 use Rattle.order_certificate.specs.OrderText.{IsPrintable, certificate}
-
--- the most processors of an order
-abbrev pub max_processors : ℕ
-max_processors = 16
-
--- the most steps that an order tells of, and the most accesses, since a step makes one at most
-abbrev pub max_steps : ℕ
-max_steps = 8000000
 
 pub record CertificateView : Type 0 where
   pub model : Model
@@ -28,7 +21,7 @@ pub record IsInText (e : Access) : Type 0 where
   pub loaded : loads e.kind ≡ false → e.loaded ≡ 0
   pub stored : stores e.kind ≡ false → e.stored ≡ 0
 
--- an order that a text can tell
+-- an order that a text can tell; a step makes one access at most, so there are no more lines than steps
 pub record IsCertificate (c : CertificateView) : Type 0 where
   pub some : 1 ≤ c.processors
   pub most : c.processors ≤ max_processors

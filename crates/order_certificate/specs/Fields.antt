@@ -13,7 +13,8 @@ use Rattle.rsim_base.specs.declared.memory.Size.{Size}
 use Rattle.rsim_base.specs.declared.memory.Size.TheVariants.{B1, B2, B4, B8}
 use Rattle.order_certificate.specs.declared.fault.TextFault.{TextFault}
 use Rattle.order_certificate.specs.declared.fault.TextFault.TheVariants.{BadLine, Truncated}
-use Rattle.order_certificate.specs.Certificate.{max_processors, max_steps, IsInText}
+use Rattle.order_certificate.specs.Certificate.{IsInText}
+use Rattle.rsim_base.specs.Limits.{max_processors, max_steps}
 use Rattle.order_certificate.specs.OrderText.{heading, line}
 
 infixl 10 ◌>>=◌

@@ -1,5 +1,4 @@
 pub mod Certificate
-pub mod Extended
 pub mod FaultText
 pub mod Fields
 pub mod Hex

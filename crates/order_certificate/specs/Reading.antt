@@ -5,7 +5,8 @@ use Rattle.rsim_base.specs.declared.memory.Access.{Access}
 use Rattle.rsim_base.specs.declared.memory.Model.{Model}
 use Rattle.order_certificate.specs.declared.fault.TextFault.{TextFault}
 use Rattle.order_certificate.specs.declared.fault.TextFault.TheVariants.{BadLine, Truncated, TooMany, Memory}
-use Rattle.order_certificate.specs.Certificate.{max_processors, max_steps, CertificateView, IsInText}
+use Rattle.order_certificate.specs.Certificate.{CertificateView, IsInText}
+use Rattle.rsim_base.specs.Limits.{max_processors, max_steps}
 use Rattle.order_certificate.specs.OrderText.{model_name, line, ending}
 
 -- A text is cut at its line feeds. All pieces but the last are whole lines.

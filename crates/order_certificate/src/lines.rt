@@ -1,19 +1,13 @@
 // The lines of an order's text, read from the front of a text: each gives what it tells and the text behind it.
 ghost use Rattle.std.specs.Prelude.{◌≡◌, ◌≤◌, ◌++◌, ◌∷◌, [], length, option_map, IfOk, IfSome};
-ghost use Rattle.order_certificate.specs.Certificate.{max_steps};
+ghost use Rattle.rsim_base.specs.Limits.{max_processors, max_steps};
 ghost use Rattle.order_certificate.specs.Fields.{model_in, model_at, processors_at, access_at, count_at, counts_from, ending_at};
 
 use crate::fields::{
     after, after_byte, decimal_at, decimal_then, hex_then, kind_then, size_then, value_then,
 };
-use rsim_base::{Access, Addr, Model, NoMemory, Node};
+use rsim_base::{Access, Addr, MAX_PROCESSORS, MAX_STEPS, Model, NoMemory, Node};
 use std::alloc::Global;
-
-/// The most processors of an order.
-pub const MAX_PROCESSORS: u32 = 16;
-
-/// The most steps that an order tells of, and the most accesses.
-pub const MAX_STEPS: u32 = 8_000_000;
 
 /// The line of the model.
 #[tactic(auto, unfolding(crate::specs::Fields::model_at))]
@@ -39,9 +33,13 @@ fn model_in(text: &[u8]) -> Option<(Model, &[u8])>
 #[tactic(auto, unfolding(crate::specs::Fields::processors_at))]
 pub fn processors_at(text: &[u8]) -> Option<(u8, &[u8])>
     ensures value { option_map (λ x. (x.0, x.1.now)) result ≡ processors_at text.now }
-    ensures few { IfSome result (λ x. x.0 ≤ 16) }
+    ensures few { IfSome result (λ x. x.0 ≤ max_processors) }
 {
-    let (processors, rest) = decimal_then(after(text, b"processors ")?, MAX_PROCESSORS + 1, b'\n')?;
+    let (processors, rest) = decimal_then(
+        after(text, b"processors ")?,
+        u32::from(MAX_PROCESSORS) + 1,
+        b'\n',
+    )?;
     if processors == 0 {
         None
     } else {

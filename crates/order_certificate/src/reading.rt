@@ -1,14 +1,15 @@
 // From an order's text to the order.
 ghost use Rattle.std.specs.Prelude.{◌≡◌, ℕ, ◌<◌, ◌≤◌, ◌⊎◌, ◌++◌, ◌∷◌, [], length, take, sum, IfOk, IfErr, OnOk, None};
-ghost use Rattle.order_certificate.specs.Certificate.{max_steps, IsCertificate, text_of, CertificateView};
+ghost use Rattle.order_certificate.specs.Certificate.{IsCertificate, text_of, CertificateView};
+ghost use Rattle.rsim_base.specs.Limits.{max_processors, max_steps};
 ghost use Rattle.order_certificate.specs.Fields.{access_at, fault_at, HasHeading, HasLines, IsOverfull};
 ghost use Rattle.order_certificate.specs.Reading.{pieces, IsRead, IsOrder, Reads};
 
 use crate::certificate::Certificate;
 use crate::fault::TextFault;
 use crate::fields::after;
-use crate::lines::{MAX_STEPS, access_at, ending_at, model_at, processors_at};
-use rsim_base::{Access, Model};
+use crate::lines::{access_at, ending_at, model_at, processors_at};
+use rsim_base::{Access, MAX_STEPS, Model};
 use std::alloc::Global;
 
 // The line of the first access, from 1.
@@ -55,7 +56,7 @@ fn read_order(
     processors: u8,
     text: &[u8],
 ) -> Result<Certificate, TextFault>
-    requires { processors ≤ 16 }
+    requires { processors ≤ max_processors }
     ensures { Reads (IsOrder model processors (pieces text.now)) result }
 {
     let (lines, rest) = read_lines(alloc, text)?;
@@ -119,7 +120,7 @@ fn keep(lines: &mut Vec<Access>, access: Access) -> Result<(), TextFault>
 }
 
 fn steps(counts: &Vec<u32>) -> u64
-    requires { length counts.now.items ≤ 16 }
+    requires { length counts.now.items ≤ max_processors }
     ensures { result ≡ sum counts.now.items }
 {
     counts.iter().map(|count| u64::from(*count)).sum()

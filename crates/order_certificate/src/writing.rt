@@ -2,11 +2,11 @@
 ghost use Rattle.std.specs.Prelude.{◌≡◌, ◌++◌, ◌∷◌, [], OnOk, OnErr, codes, decimal, take};
 ghost use Rattle.std.specs.List.{concat, flat_map};
 ghost use Rattle.rsim_base.specs.Accesses.{loads, stores};
-ghost use Rattle.order_certificate.specs.Extended.{Extends};
+ghost use Rattle.rsim_base.specs.Texts.{Extends};
 ghost use Rattle.order_certificate.specs.OrderText.{model_name, kind_letter, value_text, value_or_dash, line, heading, ending};
 
-use crate::text::{push, push_byte, push_decimal};
 use itoa::Buffer;
+use rsim_base::texts::{push, push_byte, push_decimal};
 use rsim_base::{Access, Kind, Model, NoMemory, Size};
 
 /// Puts what stands before the accesses behind these bytes: the format's name, the model and the number of processors.

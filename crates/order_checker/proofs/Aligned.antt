@@ -10,7 +10,8 @@ use Rattle.sparc_meaning.specs.StepReads.{step_aligned, step_found}
 use Rattle.sparc_meaning.specs.declared.acts.Act.{Act}
 use Rattle.sparc_meaning.specs.declared.acts.Act.TheVariants.{Nothing, Load, Store, Atomic, Fence, Out, End as Ended}
 use Rattle.order_checker.specs.Faults.{replayed, loaded_of}
-use Rattle.order_checker.proofs.Lists.{slice_get_more, Ok-injective}
+use Rattle.list_facts.specs.Places.{slice_get_more}
+use Rattle.list_facts.specs.Options.{Ok-injective}
 use Rattle.order_checker.proofs.MadeLines.{act_cases}
 use Rattle.order_checker.proofs.Replays.{IsNext, line_at, stepped_on, replayed_less, after_none, after_one}
 

@@ -16,7 +16,8 @@ use Rattle.order_checker.proofs.Aligned.{IsAlignedAccess, replayed_aligned}
 use Rattle.order_checker.proofs.Clean.{AreInText-certificate, made_at-replay, count_above}
 use Rattle.order_checker.proofs.FirstOnes.{first_none-at}
 use Rattle.order_checker.proofs.LinePlaces.{AreOnce, AreOnce-from, stray_none, place_is, place_once}
-use Rattle.order_checker.proofs.Lists.{slice_get_some, slice_get_unmapped, slice_get_mapped, Some-injective}
+use Rattle.list_facts.specs.Places.{slice_get_below, slice_get_unmapped, slice_get_mapped}
+use Rattle.list_facts.specs.Options.{Some-injective}
 use Rattle.order_checker.proofs.Replays.{replayed_lines}
 
 -- an access of the walk's processor: what it made, where its line stands, and the fences before it
@@ -50,7 +51,7 @@ pub IsOwnAccess-walk : (image : ImageView) (c : CertificateView) (p i j : ℕ) (
 IsOwnAccess-walk image c p i j w certificate walk below within =
     let run = walk.replayed in
     let made_within : i < length run.ran.accesses = subst (λ n. i < n) run.made.count within in
-    let m = slice_get_some run.ran.accesses i made_within in
+    let m = slice_get_below run.ran.accesses i made_within in
     let line = replayed_lines image c.processors c.lines p (slice_index c.counts p) run.ran (AreInText-certificate c certificate) run.is i m.0 m.1 in
     let fence = slice_get_unmapped counts w.program.fences.items i m.0.fences (ap (λ xs. slice_get xs i) run.made.fenced ∙ slice_get_mapped (λ (n : Made). n.fences) run.ran.accesses i m.0 m.1) in
     record {

@@ -23,7 +23,10 @@ use Rattle.order_checker.specs.Order.{Respects, IsEntryOf, made_at}
 use Rattle.order_checker.specs.Values.{Explains, ExplainsByte, loaded_byte}
 use Rattle.order_checker.proofs.FirstOnes.{option_or_none, first_none-at}
 use Rattle.order_checker.proofs.LinePlaces.{AreOnce, AreOnce-from, stray_none, place_once}
-use Rattle.order_checker.proofs.Lists.{slice_get-range, slice_get-range_past, length-range, length-map_of, slice_get_mapped, slice_get_unmapped, slice_get_some, Some-injective}
+use Rattle.std.proofs.lemmas.List.FromFn.{length-map-range_with_len}
+use Rattle.std.proofs.lemmas.List.{length-map}
+use Rattle.list_facts.specs.Places.{slice_get-range, slice_get-range_past, slice_get_mapped, slice_get_unmapped, slice_get_below}
+use Rattle.list_facts.specs.Options.{Some-injective}
 use Rattle.order_checker.proofs.Replays.{AreInText, values_of, replayed_lines, replayed_run}
 use Rattle.order_checker.proofs.SourceBytes.{AreInMemory, explained_from}
 
@@ -114,7 +117,7 @@ run_at image c p clean below =
 
 run_is : (image : ImageView) (c : CertificateView) (p : ℕ) (ran : Ran) → IsClean image c → slice_get (runs_of image c) p ≡ Some ran → IsRunOf image c p ran
 run_is image c p ran clean at =
-    let below : p < c.processors = subst (λ n. p < n) (length-range (ran_of image c) 0 c.processors) (slice_get_within (runs_of image c) p ran at) in
+    let below : p < c.processors = subst (λ n. p < n) (length-map-range_with_len (ran_of image c) 0 c.processors) (slice_get_within (runs_of image c) p ran at) in
     let here = run_at image c p clean below in
     subst (IsRunOf image c p) (Some-injective (sym here.1.stands ∙ at)) here.1
 
@@ -141,7 +144,7 @@ own image c j e is clean once at =
     let below = (stray_none c.processors c.lines j e at (clean.strays j (slice_get_within c.lines j e at))).0 in
     let here = run_at image c e.node.0 clean below in
     let few = count_above c.lines e.node.0 (length here.0.accesses) j e at refl (first_none-at (unmade c.lines e.node.0 (length here.0.accesses)) (length c.lines) j here.1.replay.all (slice_get_within c.lines j e at)) in
-    let made = slice_get_some here.0.accesses e.index few in
+    let made = slice_get_below here.0.accesses e.index few in
     let line = replayed_lines image c.processors c.lines e.node.0 (slice_index c.counts e.node.0) here.0 (AreInText-certificate c is) here.1.replay.is e.index made.0 made.1 in
     let same_place : j ≡ line.place = Some-injective (sym (place_once c.lines e.node.0 e.index j e once (record { stands = at; node = refl; index = refl })) ∙ line.is_place) in
     record { ran = here.0; run = here.1; made = made.0; at = made.1; same = Some-injective (sym at ∙ ap (slice_get c.lines) same_place ∙ line.line.stands) }
@@ -216,8 +219,8 @@ fits_where_clean image c is none =
     record {
       values = map (λ (ran : Ran). values_of ran.accesses) (runs_of image c);
       are_loaded = λ j e vs at is_load at_node. loaded_here clean once j e vs at at_node;
-      have_values = length-map_of (λ (ran : Ran). values_of ran.accesses) (runs_of image c) ∙ length-range (ran_of image c) 0 c.processors ∙ sym is.counts;
-      have_runs = length-range (ran_of image c) 0 c.processors ∙ sym is.counts;
+      have_values = length-map (runs_of image c) (λ (ran : Ran). values_of ran.accesses) ∙ length-map-range_with_len (ran_of image c) 0 c.processors ∙ sym is.counts;
+      have_runs = length-map-range_with_len (ran_of image c) 0 c.processors ∙ sym is.counts;
       are_run = λ p k vs ran at_steps at_values at_runs. run_here clean p k vs ran at_steps at_values at_runs;
       respects = Respects-clean image c is clean once;
       explains = Explains-clean image c is clean;

@@ -3,6 +3,7 @@ use Rattle.std.proofs.Common.{◌≡◌, ◌⊎◌, ◌<◌, ℕ, zero, suc, Boo
 use Rattle.std.specs.Option.{option_or}
 use Rattle.std.proofs.lemmas.Bool.{cases_lt, cases_Bool, cond-true, cond-false}
 use Rattle.order_checker.specs.Firsts.{first, least, last}
+use Rattle.order_checker.specs.Lasts.{IsLast}
 
 pub below_suc : (k n : ℕ) → k < suc n → (k < n) ⊎ (k ≡ n)
 below_suc k n below = ⊎_elim (λ lt. inl lt) (λ ge. inr (omega arith)) (cases_lt k n)
@@ -85,31 +86,6 @@ least_at test n i is = ⊎_elim (λ none. absurd (differ (sym none ∙ is))) (λ
 
     same : (j : ℕ) → Some j ≡ Some i → j ≡ i
     same j e = cc
-
--- the last one passes, and none above it
-pub record IsLast (test : ℕ → Bool) (n i : ℕ) : Type 0 where
-  pub passes : test i ≡ true
-  pub below : i < n
-  pub behind : (k : ℕ) → i < k → k < n → test k ≡ false
-
-pub last_cases : (test : ℕ → Bool) (n : ℕ) → ((last test n ≡ None) × ((k : ℕ) → k < n → test k ≡ false)) ⊎ ((i : ℕ) × (last test n ≡ Some i) × IsLast test n i)
-last_cases test zero = inl (refl, λ k below. absurd (omega arith))
-last_cases test (suc n) = ⊎_elim
-    (λ yes. inr (n, cond-true (test n) (Some n) (last test n) yes, record { passes = yes; below = omega arith; behind = λ k above below. absurd (omega arith) }))
-    (λ no. ⊎_elim
-    (λ (none, all). inl (cond-false (test n) (Some n) (last test n) no ∙ none, λ k below. at_all all no k below))
-    (λ (i, is, at). inr (i, cond-false (test n) (Some n) (last test n) no ∙ is, record { passes = at.passes; below = lower i at.below; behind = λ k above below. behind i at no k above below }))
-    (last_cases test n))
-    (cases_Bool (test n))
-  where
-    lower : (i : ℕ) → i < n → i < suc n
-    lower i lt = omega arith
-
-    at_all : ((k : ℕ) → k < n → test k ≡ false) → test n ≡ false → (k : ℕ) → k < suc n → test k ≡ false
-    at_all all off k below = ⊎_elim (λ lt. all k lt) (λ e. subst (λ (m : ℕ). test m ≡ false) (sym e) off) (below_suc k n below)
-
-    behind : (i : ℕ) → IsLast test n i → test n ≡ false → (k : ℕ) → i < k → k < suc n → test k ≡ false
-    behind i at off k above below = ⊎_elim (λ lt. at.behind k above lt) (λ e. subst (λ (m : ℕ). test m ≡ false) (sym e) off) (below_suc k n below)
 
 pub last_is : (test : ℕ → Bool) (n i : ℕ) → IsLast test n i → last test n ≡ Some i
 last_is test zero i at = absurd (omega (arith, at.below))

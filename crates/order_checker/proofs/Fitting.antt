@@ -27,7 +27,8 @@ use Rattle.order_checker.specs.Values.{loaded_byte}
 use Rattle.order_checker.proofs.Clean.{made_at-replay, made_at-past, made_at-some, made_at-run, AreInMemory-certificate}
 use Rattle.order_checker.proofs.FirstOnes.{first_none-from}
 use Rattle.order_checker.proofs.LinePlaces.{AreOnce, place_once, stray_from}
-use Rattle.order_checker.proofs.Lists.{slice_get-append_left, slice_get_last, slice_get_some, Some-injective}
+use Rattle.list_facts.specs.Places.{slice_get-append_left, slice_get_last, slice_get_below}
+use Rattle.list_facts.specs.Options.{Some-injective}
 use Rattle.order_checker.proofs.MadeLines.{IsMade, act_cases, AreAlike, IsEntryOf-alike, differing-alike}
 use Rattle.order_checker.proofs.Replays.{line_at, stepped_on, IsNext, replayed_more, after_one}
 use Rattle.order_checker.proofs.SourceBytes.{explained_is}
@@ -55,9 +56,9 @@ run_of image c runs fits p below =
     let have_runs = fits.fit.have_runs in
     let have_values = fits.fit.have_values in
     let counts = fits.is.counts in
-    let ran = slice_get_some runs p (omega arith) in
-    let k = slice_get_some c.counts p (omega arith) in
-    let vs = slice_get_some fits.fit.values p (omega arith) in
+    let ran = slice_get_below runs p (omega arith) in
+    let k = slice_get_below c.counts p (omega arith) in
+    let vs = slice_get_below fits.fit.values p (omega arith) in
     (ran.0, record { stands = ran.1; steps = k.0; counted = k.1; values = vs.0; loaded = vs.1; is = subst (λ n. run image p n k.0 vs.0 ≡ Some ran.0) counts (fits.fit.are_run p k.0 vs.0 ran.0 k.1 vs.1 ran.1) })
 
 -- ---- lines

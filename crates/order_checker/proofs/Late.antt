@@ -18,7 +18,7 @@ use Rattle.order_checker.specs.Walking.{is_needed_of, is_needed_by, IsAtLine}
 use Rattle.order_checker.proofs.AtLines.{IsAt, IsAt-from, here_is}
 use Rattle.order_checker.proofs.LinePlaces.{place_is}
 use Rattle.order_checker.proofs.FirstOnes.{first-least, first-same}
-use Rattle.order_checker.proofs.Lists.{Some-injective}
+use Rattle.list_facts.specs.Options.{Some-injective}
 use Rattle.order_checker.proofs.StillStanding.{first_standing}
 
 made_is : (m : Made) (f : Fences) → counts f ≡ m.fences → made_after m.access f ≡ m

@@ -18,7 +18,7 @@ use Rattle.order_checker.specs.Walking.{IsAtLine, later, latest, latest_left, wr
 use Rattle.order_checker.proofs.AtLines.{IsAt-from, here_is}
 use Rattle.order_checker.proofs.FirstOnes.{below_suc, last_is}
 use Rattle.order_checker.proofs.LinePlaces.{place_is, place_once}
-use Rattle.order_checker.proofs.Lists.{Some-injective}
+use Rattle.list_facts.specs.Options.{Some-injective}
 use Rattle.order_checker.proofs.StillStanding.{take_while-passing}
 
 -- the latest store among the accesses below n that pass

@@ -8,7 +8,6 @@ pub mod LinePlaces
 pub mod Late
 pub mod Latest
 pub mod LineSteps
-pub mod Lists
 pub mod MadeLines
 pub mod NoTexts
 pub mod Outcomes

@@ -5,7 +5,7 @@ use Rattle.std.proofs.lemmas.Option.{slice_get_within, get_or_from_slice_get}
 use Rattle.rsim_base.specs.declared.memory.Access.{Access}
 use Rattle.order_checker.specs.declared.verdict.Rejected.{Rejected}
 use Rattle.order_checker.specs.Faults.{is_of, place_among, place_of, stray, stray_of}
-use Rattle.order_checker.proofs.Lists.{Some-injective}
+use Rattle.list_facts.specs.Options.{Some-injective}
 use Rattle.order_checker.proofs.FirstOnes.{least_is, least_at, least_none, least_none-at}
 
 -- the line at place j is of access i of processor p

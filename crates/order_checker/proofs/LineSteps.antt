@@ -17,7 +17,8 @@ use Rattle.order_checker.specs.Programs.{IsReplayed}
 use Rattle.order_checker.specs.Standing.{IsWalked}
 use Rattle.order_checker.specs.Walking.{IsWalk, IsAtLine, AreWalks, HasWalked, HasWritten}
 use Rattle.order_checker.proofs.AtLines.{node_below, index_within, here_is, here_alone}
-use Rattle.order_checker.proofs.Lists.{Some-injective, slice_get_more}
+use Rattle.list_facts.specs.Places.{slice_get_more}
+use Rattle.list_facts.specs.Options.{Some-injective}
 use Rattle.order_checker.proofs.StillStanding.{walked_past}
 use Rattle.order_checker.proofs.TableLines.{slice_get-set_same, slice_get-set_other}
 use Rattle.order_checker.proofs.Written.{walked_own, left_more}

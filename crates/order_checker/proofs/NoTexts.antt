@@ -1,6 +1,8 @@
 -- A fault of an order is none of a text.
 use Rattle.std.proofs.Common.{◌≡◌, ℕ, zero, suc, Bool, true, false, if◌then◌else◌, List, [], ◌∷◌, length, slice_get, slice_index, Option, None, Some, option_map, Result, Ok, Err, refl, ap, subst, inl, inr}
 use Rattle.std.specs.Option.{option_or}
+use Rattle.std.specs.Result.{IfErr}
+use Rattle.std.proofs.lemmas.Result.{IfErr-weaker}
 use Rattle.rsim_base.specs.Accesses.{loads}
 use Rattle.rsim_base.specs.Bytes.{count_of}
 use Rattle.rsim_base.specs.declared.memory.Access.{Access}
@@ -16,7 +18,7 @@ use Rattle.order_checker.specs.Checked.{is_of_text}
 use Rattle.order_checker.specs.Faults.{stray, stray_of, step_fault, unless, then_after, followed, then_followed, replayed, unmade, unmade_of, run_fault_of, run_fault, replay, late, wrong, line_fault_of, line_fault, first_fault, file_line, place_of}
 use Rattle.order_checker.specs.Firsts.{first}
 use Rattle.order_checker.specs.Outcomes.{IsFault}
-use Rattle.order_checker.proofs.Lists.{Some-injective, Err-injective}
+use Rattle.list_facts.specs.Options.{Some-injective, Err-injective}
 
 abbrev IsPlain : Option Rejected → Type 0
 IsPlain o = (r : Rejected) → o ≡ Some r → is_of_text r ≡ false
@@ -103,3 +105,6 @@ first_fault-plain image c r e = or_plain (first (stray c.processors c.lines) (le
 pub IsFault-plain : (image : ImageView) (c : CertificateView) (r : Rejected) → IsFault (first_fault image c) r → is_of_text r ≡ false
 IsFault-plain image c r (inl out) = ap is_of_text out
 IsFault-plain image c r (inr is) = first_fault-plain image c r is
+
+pub plain_where_fault : {T : Type 0} (image : ImageView) (c : CertificateView) (result : Result T Rejected) → IfErr result (IsFault (first_fault image c)) → IfErr result (λ r. is_of_text r ≡ false)
+plain_where_fault image c result told = IfErr-weaker result (IsFault (first_fault image c)) (λ r. is_of_text r ≡ false) (IsFault-plain image c) told

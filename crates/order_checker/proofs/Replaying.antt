@@ -1,7 +1,7 @@
 -- A replay by the code, with one step more.
 use Rattle.std.proofs.Common.{◌≡◌, ◌⊎◌, ◌+◌, ◌<◌, ◌≤◌, ℕ, zero, suc, List, [], ◌∷◌, ◌++◌, length, map, Bool, true, false, if◌then◌else◌, IfSome, Option, None, Some, option_map, option_and_then, slice_get, Ok, Err, refl, sym, ap, subst, inl, inr, ⊎_elim, ◌∙◌, add-one, arith}
 use Rattle.std.proofs.lemmas.Bool.{cases_lt}
-use Rattle.std.proofs.lemmas.List.{length_push}
+use Rattle.std.proofs.lemmas.List.{length_push, append-nil}
 use Rattle.rsim_base.specs.Made as base
 use Rattle.rsim_base.specs.Made.{Made}
 use Rattle.rsim_base.specs.declared.memory.Access.{Access}
@@ -19,7 +19,8 @@ use Rattle.order_checker.specs.declared.verdict.Rejected.{Rejected}
 use Rattle.order_checker.specs.Faults.{is_of, place_of, replayed, followed, then_followed, then_after, next_step, step_fault, unless, loaded_of}
 use Rattle.order_checker.proofs.FirstOnes.{least_at}
 use Rattle.order_checker.specs.Programs.{kept, IsProgram, IsReplaying, AreAtMost}
-use Rattle.order_checker.proofs.Lists.{append-nil, map-append_one, slice_get-append_left, slice_get_last, slice_get_some, Ok-injective}
+use Rattle.list_facts.specs.Places.{map-append_one, slice_get-append_left, slice_get_last, slice_get_below}
+use Rattle.list_facts.specs.Options.{Ok-injective}
 use Rattle.order_checker.proofs.Replays.{step_fault_none}
 
 -- a fault stays
@@ -80,7 +81,7 @@ IsProgram-push lines p made places fences m j f is at same = record {
   where
     earlier : (i : ℕ) → i < length made → slice_get (places ++ j ∷ []) i ≡ place_of lines p i
     earlier i lt =
-        let here = slice_get_some places i (omega (arith, is.count)) in
+        let here = slice_get_below places i (omega (arith, is.count)) in
         slice_get-append_left places (j ∷ []) i here.0 here.1 ∙ sym here.1 ∙ is.stand i lt
 
 program_more : (lines : List Access) (p : ℕ) (made : List Made) (places : List ℕ) (fences : List Fences) (f : base.Fences) (now : Fences) (act : Act) (place : Option ℕ) (line : Option Access) → IsProgram lines p made places fences →

@@ -1,5 +1,5 @@
 -- A replay that has found no fault: its steps, its lines, and the run that it is.
-use Rattle.std.proofs.Common.{◌≡◌, ◌⊎◌, ℕ, zero, suc, Bool, true, false, if◌then◌else◌, List, [], ◌∷◌, ◌++◌, length, map, Option, None, Some, option_map, option_and_then, slice_get, Result, Ok, Err, refl, sym, ap, subst, inl, inr, ⊎_elim, ◌∙◌}
+use Rattle.std.proofs.Common.{◌≡◌, ◌⊎◌, ℕ, zero, suc, Bool, true, false, if◌then◌else◌, List, [], ◌∷◌, ◌++◌, length, map, Option, None, Some, option_map, option_and_then, slice_get, Result, Ok, Err, refl, sym, ap, subst, inl, inr, ⊎_elim, ◌∙◌, arith}
 use Rattle.rsim_base.specs.Accesses.{loads}
 use Rattle.rsim_base.specs.Made.{Made}
 use Rattle.rsim_base.specs.declared.memory.Access.{Access}
@@ -17,9 +17,13 @@ use Rattle.order_checker.specs.declared.verdict.Rejected.{Rejected}
 use Rattle.order_checker.specs.declared.verdict.Rejected.TheVariants.{Differs}
 use Rattle.order_checker.specs.Faults.{place_of, differing, step_fault, unless, loaded_of, then_after, followed, then_followed, replayed, file_line}
 use Rattle.order_checker.proofs.LinePlaces.{IsLineOf, line_of-place}
-use Rattle.order_checker.proofs.Lists.{append-nil, map-append_one, length-map_of, slice_get_last, slice_get_more, slice_get_past_end, Some-injective, Ok-injective}
+use Rattle.std.proofs.lemmas.List.{append-nil, length-map}
+use Rattle.std.proofs.lemmas.Option.{slice_get_past}
+use Rattle.list_facts.specs.Places.{map-append_one, slice_get_last, slice_get_more}
+use Rattle.list_facts.specs.Options.{Some-injective, Ok-injective}
 use Rattle.order_checker.proofs.MadeLines.{IsMade, act_cases, made_line}
-use Rattle.order_checker.proofs.Steps.{run_more_values, advanced_found, advanced_without}
+use Rattle.sparc_meaning.specs.Runs.{run_more_values}
+use Rattle.order_checker.proofs.Steps.{advanced_found, advanced_without}
 
 -- the line of access i of processor p
 abbrev pub line_at : List Access → ℕ → ℕ → Option Access
@@ -145,7 +149,7 @@ replayed_run image n lines p (suc k) ran are is = by_old (λ old was. replayed_r
         run image p n (suc k) (values_of ran.accesses) ≡ Some ran
     plain old was next none quiet =
         let vs = values_of old.accesses in
-        let past : slice_get (vs ++ []) (length old.accesses) ≡ None = ap (slice_get (vs ++ [])) (sym (length-map_of (λ (m : Made). m.access.loaded) old.accesses)) ∙ slice_get_past_end vs in
+        let past : slice_get (vs ++ []) (length old.accesses) ≡ None = ap (slice_get (vs ++ [])) (sym (length-map old.accesses (λ (m : Made). m.access.loaded))) ∙ ap (λ xs. slice_get xs (length vs)) (append-nil vs) ∙ slice_get_past vs (length vs) (omega arith) in
         one_more image p n k old ran [] was (ap values_of (after_none p old ran _ next.is none) ∙ sym (append-nil vs))
         (advanced_without image p (loaded_of (line_at lines p (length old.accesses))) (vs ++ []) old past next.running quiet ∙ ap Some (sym next.is))
 
@@ -158,7 +162,7 @@ replayed_run image n lines p (suc k) ran are is = by_old (λ old was. replayed_r
     with_one old was next x made =
         let vs = values_of old.accesses in
         let v = loaded_of (line_at lines p (length old.accesses)) in
-        let found : slice_get (vs ++ x.loaded ∷ []) (length old.accesses) ≡ Some x.loaded = ap (slice_get (vs ++ x.loaded ∷ [])) (sym (length-map_of (λ (m : Made). m.access.loaded) old.accesses)) ∙ slice_get_last vs x.loaded in
+        let found : slice_get (vs ++ x.loaded ∷ []) (length old.accesses) ≡ Some x.loaded = ap (slice_get (vs ++ x.loaded ∷ [])) (sym (length-map old.accesses (λ (m : Made). m.access.loaded))) ∙ slice_get_last vs x.loaded in
         one_more image p n k old ran (x.loaded ∷ []) was
         (ap values_of (after_one p old ran _ x next.is made.list) ∙ map-append_one (λ (m : Made). m.access.loaded) old.accesses (made_after old.fences x))
         (advanced_found image p v x.loaded (vs ++ x.loaded ∷ []) old found next.running (same_step old v x (loads x.kind) made refl) ∙ ap Some (sym next.is))

@@ -10,7 +10,8 @@ use Rattle.elf64_load.specs.Image.{ImageView, byte_at}
 use Rattle.order_checker.specs.Faults.{is_earlier, may_read, byte_from, source_byte}
 use Rattle.order_checker.specs.Firsts.{last}
 use Rattle.order_checker.specs.Values.{MayRead, IsSource, ExplainsByte, loaded_byte, stored_byte}
-use Rattle.order_checker.proofs.FirstOnes.{IsLast, last_cases, last_is, last_none}
+use Rattle.order_checker.proofs.FirstOnes.{last_is, last_none}
+use Rattle.order_checker.specs.Lasts.{IsLast, last_cases}
 
 -- addresses have 64 bits
 pub record AreInMemory (lines : List Access) : Type 0 where

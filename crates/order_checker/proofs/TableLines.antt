@@ -14,7 +14,8 @@ use Rattle.order_checker.specs.Outcomes.{IsFault}
 use Rattle.order_checker.specs.Tables.{place_in, AreTables, has_line, is_stray, IsNoted}
 use Rattle.order_checker.proofs.FirstOnes.{first_found, first_none-more}
 use Rattle.std.proofs.lemmas.Option.{slice_get-get_or}
-use Rattle.order_checker.proofs.Lists.{Some-injective, slice_get_more}
+use Rattle.list_facts.specs.Places.{slice_get_more}
+use Rattle.list_facts.specs.Options.{Some-injective}
 
 pub OnOk_both : {A E P Q R : Type 0} (r : Result A E) → (P → Q → R) → OnOk r P → OnOk r Q → OnOk r R
 OnOk_both (Ok x) f p q = f p q

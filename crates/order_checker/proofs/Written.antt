@@ -1,7 +1,7 @@
 -- Memory after one line more, and the walk.
 use Rattle.std.proofs.Common.{◌≡◌, ◌<◌, ◌≤◌, ◌&&◌, nat_lt, ℕ, zero, suc, Bool, true, false, if◌then◌else◌, List, [], ◌∷◌, ◌++◌, length, Some, option_and_then, slice_get, slice_index, refl, sym, ap, subst, ⊎_elim, ◌∙◌, append_assoc, arith}
 use Rattle.std.specs.List.{take_while, remove}
-use Rattle.std.proofs.lemmas.List.{length-append}
+use Rattle.std.proofs.lemmas.List.{length-append, append-nil}
 use Rattle.std.proofs.lemmas.Bool.{cases_lt, cond-true, cond-false, le-leb, lt-leb}
 use Rattle.rsim_base.specs.Accesses.{stores}
 use Rattle.rsim_base.specs.Bytes.{byte_of, count_of, gap_of}
@@ -14,7 +14,6 @@ use Rattle.order_checker.specs.Firsts.{last}
 use Rattle.order_checker.specs.Standing.{passing, stands_from, IsWalked}
 use Rattle.order_checker.specs.Values.{stored_byte}
 use Rattle.order_checker.specs.Walking.{written_byte, HasWritten}
-use Rattle.order_checker.proofs.Lists.{append-nil}
 use Rattle.order_checker.proofs.StillStanding.{passing-same, passing_split, take_while-passing}
 
 -- a byte after one line more

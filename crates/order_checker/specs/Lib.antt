@@ -2,12 +2,13 @@ pub mod Checked
 pub mod Faults
 pub mod Firsts
 pub mod Fit
+pub mod Lasts
 pub mod Laws
 pub mod Order
 pub mod Outcomes
 pub mod Programs
+pub mod RejectedText
 pub mod Standing
 pub mod Tables
-pub mod Told
 pub mod Values
 pub mod Walking

@@ -5,22 +5,16 @@ use Rattle.rsim_base.specs.declared.memory.Access.{Access}
 use Rattle.order_axioms.specs.Counted.{counts}
 use Rattle.order_axioms.specs.declared.counting.Fences.{Fences}
 use Rattle.elf64_load.specs.Image.{ImageView}
+use Rattle.sparc_meaning.specs.Accesses.{by_access}
 use Rattle.sparc_meaning.specs.Arch.{IsSound}
 use Rattle.sparc_meaning.specs.Run.{Ran}
 use Rattle.sparc_meaning.specs.declared.acts.Act.{Act}
-use Rattle.sparc_meaning.specs.declared.acts.Act.TheVariants.{Nothing, Load, Store, Atomic, Fence, Out, End as Over}
 use Rattle.sparc_meaning.specs.declared.arch.Arch.{Arch}
 use Rattle.order_checker.specs.Faults.{place_of, replayed}
 
 -- what is kept of an access that a step makes: its place here, where there is one
 abbrev pub kept : {A : Type 0} → Act → Option A → List A
-kept (Load addr size loaded) place = option_to_list place
-kept (Store addr size stored) place = option_to_list place
-kept (Atomic addr size loaded stored) place = option_to_list place
-kept Nothing place = []
-kept (Fence mask) place = []
-kept (Out spoken) place = []
-kept Over place = []
+kept act place = by_access [] (λ a. option_to_list place) act
 
 -- the accesses that processor p has made, by where their lines stand and by the fences before them
 pub record IsProgram (lines : List Access) (p : ℕ) (made : List Made) (places : List ℕ) (fences : List Fences) : Type 0 where

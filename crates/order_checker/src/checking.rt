@@ -9,13 +9,13 @@ ghost use Rattle.order_checker.specs.Fit.{Fit};
 ghost use Rattle.order_checker.specs.Outcomes.{IsFault};
 ghost use Rattle.sparc_meaning.specs.Run.{Ran};
 
-use crate::laws::faultless_orders_fit;
+use crate::laws;
 use crate::lines::check_lines;
 use crate::places::find_places;
 use crate::runs::run_all;
 use crate::verdict::{Accepted, Rejected};
 use elf64_load::Image;
-use order_certificate::{Certificate, TextFault, read, texts_are_read_once};
+use order_certificate::{Certificate, TextFault, laws as text_laws, read};
 use std::alloc::Global;
 
 /// Whether the text is that of an order that a machine may write for the image: one that lists what its processors'
@@ -31,8 +31,8 @@ pub fn check(alloc: Global, image: &Image, text: &[u8]) -> Result<Accepted, Reje
     ensures accepts { (c : CertificateView) (runs : List Ran) → IsCertificate c → text.now ≡ text_of c → Fit image.now c.model c.counts c.lines runs → Checks (λ r. r ≡ Ok (accepted_of c)) result }
 {
     // by these laws the verdict is one, and says whether the order fits
-    texts_are_read_once();
-    faultless_orders_fit();
+    text_laws::texts_are_read_once();
+    laws::faultless_orders_fit();
     judge(alloc, image, text)
 }
 
@@ -43,10 +43,7 @@ fn judge(alloc: Global, image: &Image, text: &[u8]) -> Result<Accepted, Rejected
     ensures whole { IfOk result (λ a. (c : CertificateView) × IsCertificate c × (text.now ≡ text_of c) × (a ≡ accepted_of c) × (first_fault image.now c ≡ None)) }
     ensures each { (c : CertificateView) → IsCertificate c → text.now ≡ text_of c → Checks (λ r. r ≡ unless_fault c (first_fault image.now c)) result }
 {
-    let order = match read(alloc, text) {
-        Ok(order) => order,
-        Err(fault) => return Err(rejected(fault)),
-    };
+    let order = read(alloc, text).map_err(rejected)?;
     check_order(alloc, image, &order)
 }
 
@@ -68,19 +65,11 @@ fn check_order(alloc: Global, image: &Image, order: &Certificate) -> Result<Acce
     ensures fault { IfErr result (IsFault (first_fault image.now order.now)) }
     ensures plain { IfErr result (λ r. is_of_text r ≡ false) }
 {
-    let tables = match find_places(alloc, &order.lines, order.processors) {
-        Ok(tables) => tables,
-        Err(fault) => return Err(fault),
-    };
-    let walks = match run_all(alloc, image, order, &tables) {
-        Ok(walks) => walks,
-        Err(fault) => return Err(fault),
-    };
+    let tables = find_places(alloc, &order.lines, order.processors)?;
+    let walks = run_all(alloc, image, order, &tables)?;
     drop(tables);
-    match check_lines(alloc, image, order, walks) {
-        Ok(()) => Ok(accepted(order)),
-        Err(fault) => Err(fault),
-    }
+    check_lines(alloc, image, order, walks)?;
+    Ok(accepted(order))
 }
 
 // What is told of an order without a fault.

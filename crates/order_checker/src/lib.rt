@@ -2,7 +2,7 @@
 #![tactic(auto)]
 
 mod checking;
-mod laws;
+pub mod laws;
 mod lines;
 mod needed;
 mod places;
@@ -13,8 +13,4 @@ mod verdict;
 mod walk;
 
 pub use checking::check;
-pub use laws::faultless_orders_fit;
 pub use verdict::{Accepted, Part, Rejected};
-
-#[cfg(test)]
-mod tests;

@@ -36,10 +36,7 @@ pub fn check_lines(
 {
     let mut memory = Memory::new(alloc);
     for place in 0..order.lines.len() {
-        match check_line(image, order, &mut walks, &mut memory, place as u32) {
-            Ok(()) => {}
-            Err(fault) => return Err(fault),
-        }
+        check_line(image, order, &mut walks, &mut memory, place as u32)?;
     }
     Ok(())
 }
@@ -88,18 +85,11 @@ fn walk_line(
     ensures written { OnOk result (HasWritten image.now order.now.lines (place + 1) memory.new) }
     ensures fault { IfErr result (IsFault (line_fault image.now order.now place)) }
 {
-    match walk.reach(line.index) {
-        Ok(()) => {}
-        Err(_) => return Err(Rejected::Memory),
+    walk.reach(line.index)?;
+    if let Some(fault) = fault_of(image, order, walk, memory, line, place) {
+        return Err(fault);
     }
-    match fault_of(image, order, walk, memory, line, place) {
-        None => {}
-        Some(fault) => return Err(fault),
-    }
-    match store(image, order, memory, line, place) {
-        Ok(()) => {}
-        Err(_) => return Err(Rejected::Memory),
-    }
+    store(image, order, memory, line, place)?;
     walk.pass(line.index);
     Ok(())
 }

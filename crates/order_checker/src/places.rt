@@ -1,5 +1,6 @@
 // Where the line of each access stands, by its processor and number.
 ghost use Rattle.std.specs.Prelude.{◌≡◌, ℕ, ◌+◌, ◌<◌, ◌≤◌, ◌==◌, ◌⊎◌, nat_lt, if◌then◌else◌, None, Some, is_some, true, IfOk, OnOk, IfErr, length, slice_get};
+ghost use Rattle.rsim_base.specs.Limits.{max_steps};
 ghost use Rattle.order_checker.specs.Faults.{stray};
 ghost use Rattle.order_checker.specs.Firsts.{first};
 ghost use Rattle.order_checker.specs.Outcomes.{IsFault};
@@ -53,7 +54,7 @@ impl Table {
 
     // Keeps where a line stands, the first of its access.
     fn put_first(&mut self, index: u32, place: u32) -> Result<(), Rejected>
-        requires { place < 8000000 }
+        requires { place < max_steps }
         ensures fresh { OnOk result (place_in self.old index ≡ None) }
         ensures put { OnOk result ((i : ℕ) → place_in self.new i ≡ (if index == i then Some place else place_in self.old i)) }
         ensures fault { IfErr result (λ r. (r ≡ Rejected.Memory) ⊎ ((r ≡ Rejected.Foreign (place + 4)) × (is_some (place_in self.old index) ≡ true))) }
@@ -61,7 +62,7 @@ impl Table {
         if self.find(index).is_some() {
             return Err(Rejected::Foreign(place + FIRST_LINE));
         }
-        self.put(index, place).map_err(|_| Rejected::Memory)
+        Ok(self.put(index, place)?)
     }
 
     // Keeps where a line stands.
@@ -91,19 +92,14 @@ fn known(place: u32) -> Option<u32>
 /// # Errors
 /// The first line of no processor, or of an access that an earlier line is of; `Memory`.
 pub fn find_places(alloc: Global, lines: &[Access], processors: u8) -> Result<Vec<Table>, Rejected>
-    requires { length lines.now ≤ 8000000 }
+    requires { length lines.now ≤ max_steps }
     ensures tables { IfOk result (λ tables. AreTables lines.now processors (length lines.now) tables.items) }
     ensures none { OnOk result (first (stray processors lines.now) (length lines.now) ≡ None) }
     ensures fault { IfErr result (IsFault (first (stray processors lines.now) (length lines.now))) }
 {
-    let Ok(mut tables) = empty_tables(alloc, lines, processors) else {
-        return Err(Rejected::Memory);
-    };
+    let mut tables = empty_tables(alloc, lines, processors)?;
     for (place, line) in lines.iter().enumerate() {
-        match note_line(&mut tables, line, place as u32) {
-            Ok(()) => {}
-            Err(fault) => return Err(fault),
-        }
+        note_line(&mut tables, line, place as u32)?;
     }
     Ok(tables)
 }
@@ -127,7 +123,7 @@ fn count_lines(lines: &[Access], p: u8) -> usize {
 
 // Notes where a line stands in the table of its processor.
 fn note_line(tables: &mut Vec<Table>, line: &Access, place: u32) -> Result<(), Rejected>
-    requires { place < 8000000 }
+    requires { place < max_steps }
     ensures noted { OnOk result (IsNoted line.now place tables.old.items tables.new.items) }
     ensures fault { IfErr result (λ r. (r ≡ Rejected.Memory) ⊎ ((r ≡ Rejected.Foreign (place + 4)) × (is_stray line.now tables.old.items ≡ true))) }
 {

@@ -1,5 +1,6 @@
 // The steps of a processor, on the values that its lines have.
 ghost use Rattle.std.specs.Prelude.{◌≡◌, ◌⊎◌, ℕ, ◌+◌, ◌<◌, ◌≤◌, ◌++◌, ◌∷◌, [], ◌==◌, IsTrue, not, if◌then◌else◌, None, Some, Ok, Err, IfOk, OnOk, IfErr, IfSome, length, slice_get, option_map, option_and_then, option_to_list, unwrap_or};
+ghost use Rattle.rsim_base.specs.Limits.{max_steps};
 ghost use Rattle.order_axioms.specs.Counted.{counts};
 ghost use Rattle.sparc_meaning.specs.Arch.{IsSound, is_running};
 ghost use Rattle.sparc_meaning.specs.Run.{accesses_of, fences_after};
@@ -52,27 +53,6 @@ fn difference(made: &Access, line: &Access) -> Option<Part>
     None
 }
 
-// The access of processor `p` with this number that a step makes.
-fn made(p: Node, i: u32, act: Act) -> Option<Access>
-    ensures { option_to_list result ≡ accesses_of p.0 i act }
-{
-    let access = |kind, addr, size, loaded, stored| Access {
-        node: p,
-        kind,
-        size,
-        index: i,
-        addr,
-        loaded,
-        stored,
-    };
-    match act {
-        Act::Load(addr, n, loaded) => Some(access(Kind::Load, addr, n, loaded, 0)),
-        Act::Store(addr, n, stored) => Some(access(Kind::Store, addr, n, 0, stored)),
-        Act::Atomic(addr, n, loaded, stored) => Some(access(Kind::Atomic, addr, n, loaded, stored)),
-        Act::Nothing | Act::Fence(_) | Act::Out(_) | Act::End => None,
-    }
-}
-
 // The fault of a step that makes this access, whose line stands there.
 fn access_fault(
     p: Node,
@@ -81,7 +61,7 @@ fn access_fault(
     place: Option<u32>,
     line: Option<Access>,
 ) -> Option<Rejected>
-    requires { IfSome place (λ j. j < 8000000) }
+    requires { IfSome place (λ j. j < max_steps) }
     ensures { result ≡ step_fault p.0 i (made.now ∷ []) place line }
 {
     let (Some(place), Some(line)) = (place, line) else {
@@ -104,7 +84,7 @@ fn next(
     place: Option<u32>,
 ) -> Result<Act, Rejected>
     requires sound { IsSound arch.old }
-    requires place { IfSome place (λ j. j < 8000000) }
+    requires place { IfSome place (λ j. j < max_steps) }
     requires within { IfSome place (λ j. j < length lines.now) }
     ensures step { IfOk result (λ act. next_step image.now lines.now p.0 s i place arch.old ≡ Ok (record { state = arch.new; act = act })) }
     ensures fault { IfErr result (λ r. next_step image.now lines.now p.0 s i place arch.old ≡ Err r) }
@@ -142,10 +122,10 @@ fn loaded(line: Option<Access>) -> u64
 
 // The fault of a step.
 fn fault_of(p: Node, i: u32, act: Act, place: Option<u32>, line: Option<Access>) -> Option<Rejected>
-    requires { IfSome place (λ j. j < 8000000) }
+    requires { IfSome place (λ j. j < max_steps) }
     ensures { result ≡ step_fault p.0 i (accesses_of p.0 i act) place line }
 {
-    match made(p, i, act) {
+    match act.access(p, i) {
         Some(made) => access_fault(p, i, &made, place, line),
         None => None,
     }
@@ -158,7 +138,7 @@ fn keep(
     act: Act,
     place: Option<u32>,
 ) -> Result<(), NoMemory>
-    requires low { AreAtMost 8000000 now.old }
+    requires low { AreAtMost max_steps now.old }
     ensures places { OnOk result (program.new.places.items ≡ program.old.places.items ++ kept act place) }
     ensures fences { OnOk result (program.new.fences.items ≡ program.old.fences.items ++ kept act (option_map (λ _. now.old) place)) }
     ensures count { OnOk result (counts now.new ≡ fences_after act (counts now.old)) }
@@ -199,9 +179,8 @@ pub fn replay(
     steps: u32,
 ) -> Result<Program, Rejected>
     requires among { p.0 < processors }
-    requires most { processors ≤ 64 }
-    requires steps { steps ≤ 8000000 }
-    requires lines { length lines.now ≤ 8000000 }
+    requires steps { steps ≤ max_steps }
+    requires lines { length lines.now ≤ max_steps }
     requires table { (i : ℕ) → place_in table.now i ≡ place_of lines.now p.0 i }
     ensures ran { IfOk result (λ r. IsReplayed image.now processors lines.now p.0 steps r.places.items r.fences.items) }
     ensures fault { IfErr result (λ r. (r ≡ Rejected.Memory) ⊎ (replayed image.now processors lines.now p.0 steps ≡ Err r)) }
@@ -220,14 +199,8 @@ pub fn replay(
     for s in 0..steps {
         let i = program.places.len() as u32;
         let place = table.find(i);
-        let act = match next(&mut arch, image, lines, p, s, i, place) {
-            Ok(act) => act,
-            Err(fault) => return Err(fault),
-        };
-        match keep(&mut program, &mut now, act, place) {
-            Ok(()) => {}
-            Err(_) => return Err(Rejected::Memory),
-        }
+        let act = next(&mut arch, image, lines, p, s, i, place)?;
+        keep(&mut program, &mut now, act, place)?;
     }
     Ok(program)
 }

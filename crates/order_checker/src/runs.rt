@@ -1,5 +1,6 @@
 // The run of a processor, and the lines of accesses that it has not made.
 ghost use Rattle.std.specs.Prelude.{◌≡◌, ℕ, ◌<◌, ◌≤◌, None, Some, IfOk, OnOk, IfErr, length};
+ghost use Rattle.rsim_base.specs.Limits.{max_steps};
 ghost use Rattle.order_certificate.specs.Certificate.{IsCertificate};
 ghost use Rattle.order_checker.specs.Faults.{unmade, unmade_of, place_of, replayed, run_fault, run_fault_of};
 ghost use Rattle.order_checker.specs.Firsts.{first};
@@ -32,18 +33,14 @@ pub fn run(
     steps: u32,
 ) -> Result<Program, Rejected>
     requires among { p.0 < processors }
-    requires most { processors ≤ 64 }
-    requires steps { steps ≤ 8000000 }
-    requires lines { length lines.now ≤ 8000000 }
+    requires steps { steps ≤ max_steps }
+    requires lines { length lines.now ≤ max_steps }
     requires table { (i : ℕ) → place_in table.now i ≡ place_of lines.now p.0 i }
     ensures ran { IfOk result (λ r. IsReplayed image.now processors lines.now p.0 steps r.places.items r.fences.items) }
     ensures none { OnOk result (run_fault_of lines.now p.0 (replayed image.now processors lines.now p.0 steps) ≡ None) }
     ensures fault { IfErr result (IsFault (run_fault_of lines.now p.0 (replayed image.now processors lines.now p.0 steps))) }
 {
-    let program = match replay(alloc, image, lines, table, p, processors, steps) {
-        Ok(program) => program,
-        Err(fault) => return Err(fault),
-    };
+    let program = replay(alloc, image, lines, table, p, processors, steps)?;
     match first_unmade(lines, p, program.places.len()) {
         None => Ok(program),
         Some(fault) => Err(fault),
@@ -68,14 +65,8 @@ pub fn run_all(
 {
     let mut walks = Vec::new(alloc);
     for p in 0..order.processors {
-        let walk = match start(alloc, image, order, &tables[p as usize], p) {
-            Ok(walk) => walk,
-            Err(fault) => return Err(fault),
-        };
-        match walks.push(walk) {
-            Ok(()) => {}
-            Err(_) => return Err(Rejected::Memory),
-        }
+        let walk = start(alloc, image, order, &tables[p as usize], p)?;
+        walks.push(walk).map_err(|_| Rejected::Memory)?;
     }
     Ok(walks)
 }
@@ -95,7 +86,7 @@ fn start(
     ensures fault { IfErr result (IsFault (run_fault image.now order.now p)) }
 {
     let steps = order.counts[p as usize];
-    match run(
+    let program = run(
         alloc,
         image,
         &order.lines,
@@ -103,15 +94,13 @@ fn start(
         Node(p),
         order.processors,
         steps,
-    ) {
-        Ok(program) => Ok(Walk::new(alloc, program)),
-        Err(fault) => Err(fault),
-    }
+    )?;
+    Ok(Walk::new(alloc, program))
 }
 
 // The first line of an access that the processor has not made, of which it has made so many.
 fn first_unmade(lines: &[Access], p: Node, count: usize) -> Option<Rejected>
-    requires { length lines.now ≤ 8000000 }
+    requires { length lines.now ≤ max_steps }
     ensures { result ≡ first (unmade lines.now p.0 count) (length lines.now) }
 {
     for (place, line) in lines.iter().enumerate() {
@@ -125,7 +114,7 @@ fn first_unmade(lines: &[Access], p: Node, count: usize) -> Option<Rejected>
 
 // The fault of a line, if its access was not made.
 fn fault_of(line: &Access, place: u32, p: Node, count: usize) -> Option<Rejected>
-    requires { place < 8000000 }
+    requires { place < max_steps }
     ensures { result ≡ unmade_of p.0 count place (Some line.now) }
 {
     if line.node.0 == p.0 && line.index as usize >= count {

@@ -1,5 +1,6 @@
 // The values of loads: what each byte's source has written.
 ghost use Rattle.std.specs.Prelude.{◌≡◌, ◌<◌, ◌%◌, ◌^◌, None, Some};
+ghost use Rattle.rsim_base.specs.Limits.{max_steps};
 ghost use Rattle.rsim_base.specs.Bytes.{Covers, count_of, gap_of};
 ghost use Rattle.order_checker.specs.Faults.{source_byte, wrong};
 ghost use Rattle.order_checker.specs.Firsts.{first};
@@ -27,7 +28,7 @@ pub fn wrong_value(
     requires at { IsAtLine image.now order.now place line.now walk.now }
     requires written { HasWritten image.now order.now.lines place memory.now }
     requires aligned { line.now.addr.0 % count_of line.now.size ≡ 0 }
-    requires few { place < 8000000 }
+    requires few { place < max_steps }
     ensures { result ≡ first (wrong image.now order.now.lines place line.now) (count_of line.now.size) }
 {
     match walk.latest_overlap(&order.lines, line) {
@@ -48,7 +49,7 @@ fn wrong_in_memory(
     requires at { IsAtLine image.now order.now place line.now walk.now }
     requires written { HasWritten image.now order.now.lines place memory.now }
     requires aligned { line.now.addr.0 % count_of line.now.size ≡ 0 }
-    requires few { place < 8000000 }
+    requires few { place < max_steps }
     requires none { latest_left (touches line.now) order.now.lines line.now walk.now ≡ None }
     ensures { result ≡ first (wrong image.now order.now.lines place line.now) (count_of line.now.size) }
 {
@@ -70,7 +71,7 @@ fn wrong_at(
 ) -> Option<Rejected>
     requires at { IsAtLine image.now order.now place line.now walk.now }
     requires written { HasWritten image.now order.now.lines place memory.now }
-    requires few { place < 8000000 }
+    requires few { place < max_steps }
     requires found { latest_left (touches line.now) order.now.lines line.now walk.now ≡ Some at }
     ensures { result ≡ first (wrong image.now order.now.lines place line.now) (count_of line.now.size) }
 {
@@ -86,7 +87,7 @@ fn wrong_at(
 fn first_differing(store: &Access, line: &Access, place: u32) -> Option<Rejected>
     requires covers { Covers store.now.addr.0 (count_of store.now.size) line.now.addr.0 (count_of line.now.size) }
     requires addr { store.now.addr.0 < 2 ^ 64 }
-    requires few { place < 8000000 }
+    requires few { place < max_steps }
     ensures { result ≡ first (differs_from store.now place line.now) (count_of line.now.size) }
 {
     for b in 0..line.size.count() {
@@ -102,7 +103,7 @@ fn first_differing(store: &Access, line: &Access, place: u32) -> Option<Rejected
 fn differing_byte(store: &Access, line: &Access, place: u32, b: u64) -> Option<Rejected>
     requires covers { Covers store.now.addr.0 (count_of store.now.size) line.now.addr.0 (count_of line.now.size) }
     requires addr { store.now.addr.0 < 2 ^ 64 }
-    requires few { place < 8000000 }
+    requires few { place < max_steps }
     requires among { b < count_of line.now.size }
     ensures { result ≡ differs_from store.now place line.now b }
 {
@@ -126,7 +127,7 @@ fn first_wrong(
 ) -> Option<Rejected>
     requires at { IsAtLine image.now order.now place line.now walk.now }
     requires written { HasWritten image.now order.now.lines place memory.now }
-    requires few { place < 8000000 }
+    requires few { place < max_steps }
     ensures { result ≡ first (wrong image.now order.now.lines place line.now) (count_of line.now.size) }
 {
     for b in 0..line.size.count() {
@@ -150,7 +151,7 @@ fn wrong_byte(
 ) -> Option<Rejected>
     requires at { IsAtLine image.now order.now place line.now walk.now }
     requires written { HasWritten image.now order.now.lines place memory.now }
-    requires few { place < 8000000 }
+    requires few { place < max_steps }
     requires among { b < count_of line.now.size }
     ensures { result ≡ wrong image.now order.now.lines place line.now b }
 {

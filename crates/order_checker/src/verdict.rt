@@ -1,9 +1,10 @@
 // What a check answers.
-ghost use Rattle.std.specs.Prelude.{Some};
-ghost use Rattle.order_checker.specs.Told.{part_text, rejected_text};
+ghost use Rattle.std.specs.Prelude.{◌≡◌, Some};
+ghost use Rattle.order_checker.specs.declared.verdict.Rejected.TheVariants.{Memory};
+ghost use Rattle.order_checker.specs.RejectedText.{part_text, rejected_text};
 
 use order_certificate::TextFault;
-use rsim_base::Node;
+use rsim_base::{NoMemory, Node};
 use std::error::Error;
 use std::fmt;
 
@@ -61,6 +62,14 @@ impl fmt::Display for Rejected {
 }
 
 impl Error for Rejected {}
+
+impl From<NoMemory> for Rejected {
+    ghost from_gives = { λ _ rejected. rejected ≡ Memory };
+
+    fn from(_e: NoMemory) -> Rejected {
+        Rejected::Memory
+    }
+}
 
 /// A part of an access.
 #[derive(Clone, Copy, Debug, PartialEq, Eq)]

@@ -1,6 +1,7 @@
 // The walk over the lines, as one processor sees it.
 ghost use Rattle.std.specs.Prelude.{◌≡◌, ℕ, ◌+◌, ◌<◌, ◌≤◌, List, find, length, nat_lt, option_and_then, slice_get, OnOk};
 ghost use Rattle.std.specs.List.{remove, take_while};
+ghost use Rattle.rsim_base.specs.Limits.{max_steps};
 ghost use Rattle.order_checker.specs.Faults.{writes};
 ghost use Rattle.order_checker.specs.Walking.{later as later_of, touches};
 
@@ -36,16 +37,13 @@ impl Walk {
 
     /// Goes on to access `i`: from now on it counts among those that are left or behind.
     pub fn reach(&mut self, i: u32) -> Result<(), NoMemory>
-        requires { i < 8000000 }
+        requires { i < max_steps }
         ensures walked { OnOk result ((places : List ℕ) (j : ℕ) → i < length places → IsWalked places j self.old.next self.old.left.items → IsWalked places j self.new.next self.new.left.items) }
         ensures reached { OnOk result (i < self.new.next) }
         ensures same { self.new.program ≡ self.old.program }
     {
         while self.next <= i {
-            match self.left.push_back(self.next) {
-                Ok(()) => {}
-                Err(_) => return Err(NoMemory),
-            }
+            self.left.push_back(self.next).map_err(|_| NoMemory)?;
             self.next += 1;
         }
         Ok(())

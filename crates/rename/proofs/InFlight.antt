@@ -6,6 +6,7 @@ use Rattle.std.proofs.lemmas.List.{map_push, length-map, length-replicate}
 use Rattle.std.proofs.lemmas.List.Elements.{All-nil, All-cons, All-head, All-tail}
 use Rattle.std.proofs.lemmas.List.FromFn.{length-range_with_len, get_or-range_with_len}
 use Rattle.std.specs.List.{range_with_len}
+use Rattle.rsim_base.specs.Limits.{arch_registers}
 use Rattle.rsim_base.specs.declared.processor.Renamed.{Renamed}
 use Rattle.rsim_base.specs.declared.refusals.NoneFree.{NoneFree}
 use Rattle.sparc_meaning.specs.declared.arch.Arch.{Arch}
@@ -35,13 +36,13 @@ named_none r (t ∷ ts) held none =
     let P : Renamed → Type 0 = λ u. u.reg.0 ≢ r in
     named_none r ts (after t r held) (All-tail P t ts none) ∙ after_other t r held (All-head P t ts none)
 
-OldsAreBefore_push : (ts : List Renamed) (t : Renamed) (held : ℕ → ℕ) → OldsAreBefore ts held → t.reg.0 < 138 → t.old.0 ≡ named t.reg.0 ts (held t.reg.0) → OldsAreBefore (ts ++ t ∷ []) held
+OldsAreBefore_push : (ts : List Renamed) (t : Renamed) (held : ℕ → ℕ) → OldsAreBefore ts held → t.reg.0 < arch_registers → t.old.0 ≡ named t.reg.0 ts (held t.reg.0) → OldsAreBefore (ts ++ t ∷ []) held
 OldsAreBefore_push [] t held h low e = (low, e, tt)
 OldsAreBefore_push (u ∷ ts) t held h low e = (h.0, h.1, OldsAreBefore_push ts t (λ r. after u r (held r)) h.2 low e)
 
 pub record IsYoungest (ts : List Renamed) (t : Renamed) (held : ℕ → ℕ) : Type 0 where
   pub others : OldsAreBefore ts held
-  pub low : t.reg.0 < 138
+  pub low : t.reg.0 < arch_registers
   pub old_is : t.old.0 ≡ named t.reg.0 ts (held t.reg.0)
 
 youngest : (ts : List Renamed) (t : Renamed) (held : ℕ → ℕ) → OldsAreBefore (ts ++ t ∷ []) held → IsYoungest ts t held
@@ -76,7 +77,7 @@ set_after current t q low =
 
 -- ---- one more take
 
-take_first : (retired : ℕ → ℕ) (ts : List Renamed) (v : NamesView) (r x : ℕ) (rest : List ℕ) → IsRenaming retired ts v → r < 138 → v.free ≡ x ∷ rest → IsRenaming retired (ts ++ take_of r x v ∷ []) (taken r x rest v)
+take_first : (retired : ℕ → ℕ) (ts : List Renamed) (v : NamesView) (r x : ℕ) (rest : List ℕ) → IsRenaming retired ts v → r < arch_registers → v.free ≡ x ∷ rest → IsRenaming retired (ts ++ take_of r x v ∷ []) (taken r x rest v)
 take_first retired ts v r x rest h low first =
     let t = take_of r x v in
     let within : r < length v.current = omega (arith, h.count) in
@@ -94,7 +95,7 @@ take_first retired ts v r x rest h low first =
 ok_is_no_err : (t : Renamed) (e : NoneFree) → Ok t ≡ Err e → ⊥
 ok_is_no_err t e h = cc
 
-take_by : (retired : ℕ → ℕ) (ts : List Renamed) (v w : NamesView) (r : ℕ) (t : Renamed) → IsRenaming retired ts v → r < 138 → (free : List ℕ) → v.free ≡ free → TakesOf r v free (Ok t) w → IsRenaming retired (ts ++ t ∷ []) w
+take_by : (retired : ℕ → ℕ) (ts : List Renamed) (v w : NamesView) (r : ℕ) (t : Renamed) → IsRenaming retired ts v → r < arch_registers → (free : List ℕ) → v.free ≡ free → TakesOf r v free (Ok t) w → IsRenaming retired (ts ++ t ∷ []) w
 take_by retired ts v w r t h low [] e takes = absurd (ok_is_no_err t (record {}) takes.0)
 take_by retired ts v w r t h low (x ∷ rest) e takes =
     let given : take_of r x v ≡ t = cc in
@@ -123,7 +124,7 @@ undone_is_renaming retired ts t v h =
     let y = youngest ts t retired h.olds_are in
     let within : t.reg.0 < length v.current = omega (arith, h.count, y.low) in
     let back : Renamed = record { reg = t.reg; new = t.old; old = t.new } in
-    let last = λ (q : ℕ) (less : q < 138). h.names q less ∙ named-append q ts (t ∷ []) (retired q) in
+    let last = λ (q : ℕ) (less : q < arch_registers). h.names q less ∙ named-append q ts (t ∷ []) (retired q) in
     let is : get_or v.current t.reg.0 0 ≡ t.new.0 = last t.reg.0 y.low ∙ after_same t t.reg.0 (named t.reg.0 ts (retired t.reg.0)) refl in
     let pushed : olds (ts ++ t ∷ []) ≡ olds ts ++ t.old.0 ∷ [] = map_push (λ (u : Renamed). u.old.0) ts t in
     let same = λ (x : ℕ). places_undone x t.reg.0 t.old.0 t.new.0 v.current (olds ts) v.free within is ∙ ap (λ os. places x v.current os v.free) (sym pushed) in
@@ -190,9 +191,9 @@ kept_or_named (t ∷ ts) held r h =
     (cases_eq t.reg.0 r)
 
 abbrev IsWithin : ℕ → Renamed → Type 0
-IsWithin n t = (t.reg.0 < 138) × (t.new.0 < n) × (t.old.0 < n)
+IsWithin n t = (t.reg.0 < arch_registers) × (t.new.0 < n) × (t.old.0 < n)
 
-takes_within : (n : ℕ) (ts : List Renamed) (held : ℕ → ℕ) → OldsAreBefore ts held → ((r : ℕ) → r < 138 → named r ts (held r) < n) → ((x : ℕ) → 1 ≤ times x (olds ts) → x < n) → All (IsWithin n) ts
+takes_within : (n : ℕ) (ts : List Renamed) (held : ℕ → ℕ) → OldsAreBefore ts held → ((r : ℕ) → r < arch_registers → named r ts (held r) < n) → ((x : ℕ) → 1 ≤ times x (olds ts) → x < n) → All (IsWithin n) ts
 takes_within n [] held h named_low olds_low = All-nil (IsWithin n)
 takes_within n (t ∷ ts) held h named_low olds_low =
     let behind = λ (q : ℕ). after t q (held q) in
@@ -208,7 +209,7 @@ takes_within n (t ∷ ts) held h named_low olds_low =
 pub numbers_are_within : NumbersAreWithin
 numbers_are_within retired ts v h =
     let n = length v.values in
-    let current_low : (r : ℕ) → r < 138 → get_or v.current r 0 < n = λ r low. ⊎_elim
+    let current_low : (r : ℕ) → r < arch_registers → get_or v.current r 0 < n = λ r low. ⊎_elim
     (λ (less : get_or v.current r 0 < n). less)
     (λ (more : n ≤ get_or v.current r 0). absurd (omega (arith, h.no_more (get_or v.current r 0) more, times_held v.current r (omega (arith, h.count)))))
     (cases_lt (get_or v.current r 0) n) in
@@ -220,7 +221,7 @@ numbers_are_within retired ts v h =
 
 -- ---- at first
 
-first_of : (extra : ℕ) (v : NamesView) (n : ℕ) → n ≡ 138 → v.current ≡ range_with_len 0 n → v.free ≡ range_with_len n extra → length v.values ≡ n + extra → IsRenaming (λ r. r) [] v
+first_of : (extra : ℕ) (v : NamesView) (n : ℕ) → n ≡ arch_registers → v.current ≡ range_with_len 0 n → v.free ≡ range_with_len n extra → length v.values ≡ n + extra → IsRenaming (λ r. r) [] v
 first_of extra v n is current free values =
     let count_is = λ (x : ℕ). ap (times x) current in
     let free_is = λ (x : ℕ). ap (times x) free in
@@ -235,7 +236,7 @@ first_of extra v n is current free values =
       no_more = λ x more. omega (arith, count_is x, free_is x, times_behind x 0 n (omega arith), times_behind x n extra (omega arith));
     }
 
-values_of : (extra : ℕ) (s : Arch) → length s.globals ≡ 8 → length s.windowed ≡ 128 → length (map Some (registers_of s) ++ replicate extra None) ≡ 138 + extra
+values_of : (extra : ℕ) (s : Arch) → length s.globals ≡ 8 → length s.windowed ≡ 128 → length (map Some (registers_of s) ++ replicate extra None) ≡ arch_registers + extra
 values_of extra s globals windowed =
     let last = s.cc ∷ s.y ∷ [] in
     let none : Option ℕ = None in
@@ -243,4 +244,4 @@ values_of extra s globals windowed =
 
 pub first_is_renaming : FirstIsRenaming
 first_is_renaming extra s globals windowed =
-    first_of extra (first_names extra s) 138 refl refl refl (values_of extra s globals windowed)
+    first_of extra (first_names extra s) arch_registers refl refl refl (values_of extra s globals windowed)

@@ -4,11 +4,12 @@ use Rattle.std.specs.List.{range_with_len}
 use Rattle.std.proofs.lemmas.List.{length_push, map_push, map-set, drop-map, get_or-map}
 use Rattle.std.proofs.lemmas.List.Elements.{All-nil, All-set, All-push, All-cons}
 use Rattle.std.proofs.lemmas.List.FromFn.{map-range_with_len_more, length-map-range_with_len}
+use Rattle.rsim_base.specs.Limits.{arch_registers}
 use Rattle.rsim_base.specs.declared.processor.ArchReg.{ArchReg}
 use Rattle.rsim_base.specs.declared.processor.PhysReg.{PhysReg}
 use Rattle.sparc_meaning.specs.declared.arch.Arch.{Arch}
 use Rattle.circular_buffer.specs.Buffer.{Buffer, buffer, keep_last}
-use Rattle.rename.specs.Inside.{AreInside, registers}
+use Rattle.rename.specs.Registers.{AreInside, most_extra, registers}
 use Rattle.rename.specs.Start.{first_names, registers_of}
 use Rattle.rename.specs.Names.{NamesView, Takes, TakesOf, take_of, taken}
 
@@ -41,17 +42,17 @@ registers_below first (suc n) m h = All-cons (λ r. r.0 < m) (record { 0 = first
 pub length-registers : (first n : ℕ) → length (registers first n) ≡ n
 length-registers first n = let f : ℕ → PhysReg = λ r. record { 0 = r } in length-map-range_with_len f first n
 
-pub AreInside-first : (extra n : ℕ) (current : List PhysReg) (free : Buffer PhysReg) → extra ≤ 65398 → current ≡ registers 0 138 → free ≡ buffer (registers 138 extra) extra → n ≡ 138 + extra → AreInside current free n
+pub AreInside-first : (extra n : ℕ) (current : List PhysReg) (free : Buffer PhysReg) → extra ≤ most_extra → current ≡ registers 0 arch_registers → free ≡ buffer (registers arch_registers extra) extra → n ≡ arch_registers + extra → AreInside current free n
 AreInside-first extra n current free h current_is free_is is =
     let P : List PhysReg → Type 0 = λ xs. All (λ r. r.0 < n) xs in
-    let length_is = ap (λ b. length b.items) free_is ∙ length-registers 138 extra in
+    let length_is = ap (λ b. length b.items) free_is ∙ length-registers arch_registers extra in
     let capacity_is = ap (λ b. b.capacity) free_is in
     record {
       few = omega arith;
       room = omega arith;
       within = omega arith;
-      current_below = subst P (sym current_is) (registers_below 0 138 n (omega arith));
-      free_below = subst P (sym (ap (λ b. b.items) free_is)) (registers_below 138 extra n (omega arith));
+      current_below = subst P (sym current_is) (registers_below 0 arch_registers n (omega arith));
+      free_below = subst P (sym (ap (λ b. b.items) free_is)) (registers_below arch_registers extra n (omega arith));
     }
 
 -- one more register
@@ -75,10 +76,10 @@ view_of current free values = record { current = map (λ r. r.0) current; free =
 numbers_are : (first n : ℕ) (rs : List PhysReg) → rs ≡ registers first n → map (λ r. r.0) rs ≡ range_with_len first n
 numbers_are first n rs is = let f : PhysReg → ℕ = λ r. r.0 in ap (map f) is ∙ numbers_of_registers first n
 
-pub view_of_first : (extra : ℕ) (s : Arch) (current : List PhysReg) (free : Buffer PhysReg) (values : List (Option ℕ)) → current ≡ registers 0 138 → free ≡ buffer (registers 138 extra) extra → values ≡ map Some (registers_of s) ++ replicate extra None → view_of current free.items values ≡ first_names extra s
+pub view_of_first : (extra : ℕ) (s : Arch) (current : List PhysReg) (free : Buffer PhysReg) (values : List (Option ℕ)) → current ≡ registers 0 arch_registers → free ≡ buffer (registers arch_registers extra) extra → values ≡ map Some (registers_of s) ++ replicate extra None → view_of current free.items values ≡ first_names extra s
 view_of_first extra s current free values current_is free_is values_are =
-    let currents = numbers_are 0 138 current current_is in
-    let frees = numbers_are 138 extra free.items (ap (λ b. b.items) free_is) in
+    let currents = numbers_are 0 arch_registers current current_is in
+    let frees = numbers_are arch_registers extra free.items (ap (λ b. b.items) free_is) in
     λ i. record { current = currents i; free = frees i; values = values_are i }
 
 -- what takes the front of the free ones takes a register

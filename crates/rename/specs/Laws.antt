@@ -1,5 +1,6 @@
 -- What holds after any takes, releases and undos.
 use Rattle.std.specs.Prelude.{◌≡◌, ◌≢◌, ℕ, ◌+◌, ◌<◌, ◌==◌, ◌∷◌, ◌++◌, List, [], length, All, if◌then◌else◌, slice_index, slice_set, Ok}
+use Rattle.rsim_base.specs.Limits.{arch_registers}
 use Rattle.rsim_base.specs.declared.processor.Renamed.{Renamed}
 use Rattle.sparc_meaning.specs.declared.arch.Arch.{Arch}
 use Rattle.rename.specs.Names.{NamesView, Takes}
@@ -15,7 +16,7 @@ abbrev pub TakenIsRenaming : Type 0
 TakenIsRenaming =
     (retired : ℕ → ℕ) (takes : List Renamed) (v w : NamesView) (r : ℕ) (t : Renamed)
     → IsRenaming retired takes v
-    → r < 138
+    → r < arch_registers
     → Takes r v (Ok t) w
     → IsRenaming retired (takes ++ t ∷ []) w
 
@@ -38,7 +39,7 @@ abbrev pub OperandsNameWriters : Type 0
 OperandsNameWriters =
     (retired : ℕ → ℕ) (takes : List Renamed) (v : NamesView) (r : ℕ)
     → IsRenaming retired takes v
-    → r < 138
+    → r < arch_registers
     → ((before after : List Renamed) (t : Renamed) → takes ≡ before ++ t ∷ after → t.reg.0 ≡ r → All (λ u. u.reg.0 ≢ r) after → slice_index v.current r ≡ t.new.0)
     × (All (λ u. u.reg.0 ≢ r) takes → slice_index v.current r ≡ retired r)
 
@@ -47,8 +48,8 @@ abbrev pub RegistersAreApart : Type 0
 RegistersAreApart =
     (retired : ℕ → ℕ) (takes : List Renamed) (v : NamesView) (r q : ℕ)
     → IsRenaming retired takes v
-    → r < 138
-    → q < 138
+    → r < arch_registers
+    → q < arch_registers
     → slice_index v.current r ≡ slice_index v.current q
     → r ≡ q
 
@@ -57,12 +58,12 @@ abbrev pub RoomForEach : Type 0
 RoomForEach =
     (retired : ℕ → ℕ) (takes : List Renamed) (v : NamesView)
     → IsRenaming retired takes v
-    → length v.free + (length takes + 138) ≡ length v.values
+    → length v.free + (length takes + arch_registers) ≡ length v.values
 
 -- each number that is mapped, or that a take in flight speaks of, names a register
 abbrev pub NumbersAreWithin : Type 0
 NumbersAreWithin =
     (retired : ℕ → ℕ) (takes : List Renamed) (v : NamesView)
     → IsRenaming retired takes v
-    → ((r : ℕ) → r < 138 → slice_index v.current r < length v.values)
-    × All (λ t. (t.reg.0 < 138) × (t.new.0 < length v.values) × (t.old.0 < length v.values)) takes
+    → ((r : ℕ) → r < arch_registers → slice_index v.current r < length v.values)
+    × All (λ t. (t.reg.0 < arch_registers) × (t.new.0 < length v.values) × (t.old.0 < length v.values)) takes

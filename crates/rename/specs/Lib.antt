@@ -1,5 +1,5 @@
-pub mod Inside
 pub mod Laws
 pub mod Names
+pub mod Registers
 pub mod Renaming
 pub mod Start

@@ -1,5 +1,6 @@
 -- Which register an operand names: that of the youngest earlier writer in flight, or the retired one.
 use Rattle.std.specs.Prelude.{◌≡◌, ℕ, ◌+◌, ◌<◌, ◌≤◌, ◌==◌, ⊤, ◌∷◌, List, [], length, map, count_by, if◌then◌else◌, slice_index}
+use Rattle.rsim_base.specs.Limits.{arch_registers}
 use Rattle.rsim_base.specs.declared.processor.Renamed.{Renamed}
 use Rattle.rename.specs.Names.{NamesView}
 
@@ -14,7 +15,7 @@ named r (t ∷ ts) held = named r ts (if t.reg.0 == r then t.new.0 else held)
 -- each take kept what held its register before it
 abbrev pub OldsAreBefore : List Renamed → (ℕ → ℕ) → Type 0
 OldsAreBefore [] held = ⊤
-OldsAreBefore (t ∷ ts) held = (t.reg.0 < 138) × (t.old.0 ≡ held t.reg.0) × OldsAreBefore ts (λ r. if t.reg.0 == r then t.new.0 else held r)
+OldsAreBefore (t ∷ ts) held = (t.reg.0 < arch_registers) × (t.old.0 ≡ held t.reg.0) × OldsAreBefore ts (λ r. if t.reg.0 == r then t.new.0 else held r)
 
 -- how often register x stands in a list
 abbrev pub times : ℕ → List ℕ → ℕ
@@ -25,8 +26,8 @@ olds takes = map (λ t. t.old.0) takes
 
 -- these takes are in flight, over these retired registers
 pub record IsRenaming (retired : ℕ → ℕ) (takes : List Renamed) (v : NamesView) : Type 0 where
-  pub count : length v.current ≡ 138
-  pub names : (r : ℕ) → r < 138 → slice_index v.current r ≡ named r takes (retired r)
+  pub count : length v.current ≡ arch_registers
+  pub names : (r : ℕ) → r < arch_registers → slice_index v.current r ≡ named r takes (retired r)
   pub olds_are : OldsAreBefore takes retired
   -- mapped, kept as old, or free: each register exactly once
   pub once : (x : ℕ) → x < length v.values → times x v.current + (times x (olds takes) + times x v.free) ≡ 1

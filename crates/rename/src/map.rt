@@ -1,19 +1,20 @@
 // The registers of a core, and which of them hold the architectural ones.
 ghost use Rattle.std.specs.Prelude.{◌≡◌, ◌∷◌, ◌++◌, ◌+◌, ◌<◌, ◌≤◌, [], IfOk, OnOk, length, map, replicate, None, Some, slice_index, slice_index_or, slice_set, vec_len};
 ghost use Rattle.circular_buffer.specs.Buffer.{buffer};
-ghost use Rattle.rename.specs.Inside.{registers};
+ghost use Rattle.rsim_base.specs.Limits.{arch_registers};
+ghost use Rattle.rename.specs.Registers.{most_extra, registers};
 ghost use Rattle.rename.specs.Names.{Takes};
 ghost use Rattle.rename.specs.Start.{first_names, registers_of};
 
 use circular_buffer::HeapCircularBuffer;
-use rsim_base::{ArchReg, NoMemory, NoneFree, PhysReg, Renamed};
+use rsim_base::{ARCH_REGISTERS, ArchReg, NoMemory, NoneFree, PhysReg, Renamed};
 use sparc_meaning::Arch;
 use std::alloc::{AllocError, Global};
 use std::array;
 use std::marker::Model;
 
-/// How many architectural registers there are: the globals, the windowed registers, the condition codes, and Y.
-const ARCH_REGISTERS: usize = 138;
+// The architectural registers: the globals, the windowed registers, the condition codes, and Y.
+const NAMED: usize = ARCH_REGISTERS as usize;
 
 /// The registers of an out-of-order core: which of them hold the architectural registers, which are free, and the value of
 /// each that has been written.
@@ -23,7 +24,7 @@ const ARCH_REGISTERS: usize = 138;
 #[derive(Drop)]
 pub struct RenameMap {
     // By architectural register.
-    current: [PhysReg; ARCH_REGISTERS],
+    current: [PhysReg; NAMED],
     // The one that has been free longest first.
     free: HeapCircularBuffer<PhysReg>,
     values: Vec<Option<u64>>,
@@ -32,7 +33,7 @@ pub struct RenameMap {
 impl Model for RenameMap {
     ghost use Rattle.std.specs.Prelude.{map, vec_len};
     ghost use Rattle.rename.specs.Names.{NamesView};
-    ghost use Rattle.rename.specs.Inside.{AreInside};
+    ghost use Rattle.rename.specs.Registers.{AreInside};
 
     ghost Value = { NamesView };
 
@@ -42,25 +43,25 @@ impl Model for RenameMap {
 }
 
 impl RenameMap {
-    /// 138 registers that hold a state's, and `extra` more, which are free.
+    /// A register for each of a state's, which holds it, and `extra` more, which are free.
     ///
     /// # Errors
     /// `NoMemory` where there is no memory for so many.
-    pub fn make(alloc: Global, extra: u16, image: &Arch) -> Result<RenameMap, NoMemory>
-        requires { extra ≤ 65398 }
-        ensures count { IfOk result (λ m. length m.values ≡ 138 + extra) }
-        ensures value { IfOk result (λ m. m ≡ first_names extra image.now) }
+    pub fn make(alloc: Global, extra: u16, state: &Arch) -> Result<RenameMap, NoMemory>
+        requires { extra ≤ most_extra }
+        ensures count { IfOk result (λ m. length m.values ≡ arch_registers + extra) }
+        ensures value { IfOk result (λ m. m ≡ first_names extra state.now) }
     {
         Ok(RenameMap {
             current: first_registers(),
             free: registers_behind(alloc, extra).map_err(|_| NoMemory)?,
-            values: first_values(alloc, extra, image).map_err(|_| NoMemory)?,
+            values: first_values(alloc, extra, state).map_err(|_| NoMemory)?,
         })
     }
 
     /// The register that holds an architectural one for whatever comes next in the program.
     pub fn lookup(&self, r: ArchReg) -> PhysReg
-        requires { r.0 < 138 }
+        requires { r.0 < arch_registers }
         ensures value { result.0 ≡ slice_index self.now.current r.0 }
         ensures within { result.0 < length self.now.values }
     {
@@ -72,7 +73,7 @@ impl RenameMap {
     /// # Errors
     /// Exactly where no register is free. Then nothing changes.
     pub fn take(&mut self, r: ArchReg) -> Result<Renamed, NoneFree>
-        requires { r.0 < 138 }
+        requires { r.0 < arch_registers }
         ensures after { Takes r.0 self.old result self.new }
         ensures within { IfOk result (λ t. (t.new.0 < length self.old.values) × (t.old.0 < length self.old.values)) }
     {
@@ -86,7 +87,7 @@ impl RenameMap {
     /// A register is free again: what held an architectural register before its writer, which has retired.
     pub fn release(&mut self, old: PhysReg)
         requires register { old.0 < length self.old.values }
-        requires place { length self.old.free + 138 < length self.old.values }
+        requires place { length self.old.free + arch_registers < length self.old.values }
         ensures { self.new ≡ record self.old { free = self.old.free ++ old.0 ∷ [] } }
     {
         push(&mut self.free, old);
@@ -94,10 +95,10 @@ impl RenameMap {
 
     /// Undoes the youngest take: its architectural register is held as before it, and the new register is free again.
     pub fn back_to(&mut self, u: Renamed)
-        requires reg { u.reg.0 < 138 }
+        requires reg { u.reg.0 < arch_registers }
         requires new { u.new.0 < length self.old.values }
         requires old { u.old.0 < length self.old.values }
-        requires place { length self.old.free + 138 < length self.old.values }
+        requires place { length self.old.free + arch_registers < length self.old.values }
         ensures { self.new ≡ record self.old { current = slice_set self.old.current u.reg.0 u.old.0; free = self.old.free ++ u.new.0 ∷ [] } }
     {
         self.current[usize::from(u.reg.0)] = u.old;
@@ -130,34 +131,34 @@ fn push(free: &mut HeapCircularBuffer<PhysReg>, r: PhysReg)
 }
 
 // Register r holds architectural register r.
-fn first_registers() -> [PhysReg; ARCH_REGISTERS]
-    ensures { result ≡ registers 0 138 }
+fn first_registers() -> [PhysReg; NAMED]
+    ensures { result ≡ registers 0 arch_registers }
 {
     array::from_fn(|r| PhysReg(r as u16))
 }
 
 // The registers behind those that hold architectural ones.
 fn registers_behind(alloc: Global, extra: u16) -> Result<HeapCircularBuffer<PhysReg>, AllocError>
-    requires { extra ≤ 65398 }
-    ensures { IfOk result (λ b. b ≡ buffer (registers 138 extra) extra) }
+    requires { extra ≤ most_extra }
+    ensures { IfOk result (λ b. b ≡ buffer (registers arch_registers extra) extra) }
 {
     let mut free = HeapCircularBuffer::with_capacity(alloc, usize::from(extra))?;
     for k in 0..extra {
-        push(&mut free, PhysReg(ARCH_REGISTERS as u16 + k));
+        push(&mut free, PhysReg(NAMED as u16 + k));
     }
     Ok(free)
 }
 
 // The values of the architectural registers in their order, and of so many more that are not written.
-fn first_values(alloc: Global, extra: u16, image: &Arch) -> Result<Vec<Option<u64>>, AllocError>
-    ensures count { IfOk result (λ v. vec_len v ≡ 138 + extra) }
-    ensures values { IfOk result (λ v. v.items ≡ map Some (registers_of image.now) ++ replicate extra None) }
+fn first_values(alloc: Global, extra: u16, state: &Arch) -> Result<Vec<Option<u64>>, AllocError>
+    ensures count { IfOk result (λ v. vec_len v ≡ arch_registers + extra) }
+    ensures values { IfOk result (λ v. v.items ≡ map Some (registers_of state.now) ++ replicate extra None) }
 {
-    let count = ARCH_REGISTERS + usize::from(extra);
+    let count = NAMED + usize::from(extra);
     let mut values = Vec::with_capacity(alloc, count)?;
-    append(&mut values, &image.globals)?;
-    append(&mut values, &image.windowed)?;
-    append(&mut values, &[u64::from(image.cc), image.y])?;
+    append(&mut values, &state.globals)?;
+    append(&mut values, &state.windowed)?;
+    append(&mut values, &[u64::from(state.cc), state.y])?;
     values.resize(count, None)?;
     Ok(values)
 }

@@ -1,4 +1,4 @@
-// The names of registers, and where a processor stands in its program.
+// The names of registers and units, and where a processor stands in its program.
 
 /// An architectural register: 0 to 7 are the globals, 8 to 135 the windowed registers, 136 the
 /// condition codes and 137 the Y register (SPARC V9, 5.1).
@@ -31,4 +31,15 @@ pub struct Window {
     pub cwp: u8,
     pub cansave: u8,
     pub canrestore: u8,
+}
+
+/// A kind of unit that instructions are issued to.
+#[derive(Clone, Copy, Debug, PartialEq, Eq)]
+pub enum Unit {
+    /// Arithmetic, logic, shifts, branches and addresses.
+    Alu,
+    /// Multiplication.
+    Mul,
+    /// Division. A division has its unit until it is finished.
+    Div,
 }

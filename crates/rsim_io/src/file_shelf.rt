@@ -25,6 +25,13 @@ impl<R: Files + Drop> FileShelf<R> {
         FileShelf { rt, faults: 0 }
     }
 
+    /// How many calls have failed.
+    pub fn faults(&self) -> u64
+        ensures { result ≡ self.now.faults }
+    {
+        self.faults
+    }
+
     // Counts a call that failed.
     fn failed(&mut self)
         ensures later { self.old.faults ≤ self.new.faults }
@@ -88,57 +95,6 @@ impl<R: Files + Drop> Shelf for FileShelf<R> {
             self.failed();
             return Err(StoreFault::Failed);
         }
-        Ok(())
-    }
-}
-
-#[cfg(test)]
-mod tests {
-    use super::*;
-    use std::test::Fail;
-
-    #[test]
-    fn a_file_is_made_grown_and_fetched(rt: HostRuntime) -> Result<(), Fail> {
-        let mut shelf = FileShelf::new(&rt);
-        shelf.create("piece")?;
-        shelf.append("piece", b"one ")?;
-        shelf.append("piece", b"two")?;
-        let mut whole = Vec::new(rt.alloc());
-        assert_eq!(rt; shelf.fetch("piece", &mut whole, 7), Ok(()));
-        assert_eq!(rt; whole.as_slice(), b"one two".as_slice());
-        let mut start = Vec::new(rt.alloc());
-        assert_eq!(rt;
-            shelf.fetch("piece", &mut start, 6),
-            Err(FetchFault::TooLarge)
-        );
-        assert_eq!(rt; start.as_slice(), b"one two".as_slice());
-        assert_eq!(rt; shelf.faults, 0);
-        Ok(())
-    }
-
-    #[test]
-    fn a_file_that_has_bytes_is_emptied_when_it_is_made_again(rt: HostRuntime) -> Result<(), Fail> {
-        let mut shelf = FileShelf::new(&rt);
-        shelf.append("again", b"old bytes")?;
-        shelf.create("again")?;
-        let mut whole = Vec::new(rt.alloc());
-        assert_eq!(rt; shelf.fetch("again", &mut whole, 100), Ok(()));
-        assert_eq!(rt; whole.len(), 0);
-        shelf.append("again", b"new")?;
-        assert_eq!(rt; shelf.fetch("again", &mut whole, 100), Ok(()));
-        assert_eq!(rt; whole.as_slice(), b"new".as_slice());
-        Ok(())
-    }
-
-    #[test]
-    fn a_missing_file_is_counted_as_a_fault(rt: HostRuntime) -> Result<(), Fail> {
-        let mut shelf = FileShelf::new(&rt);
-        let mut into = Vec::new(rt.alloc());
-        assert_eq!(rt;
-            shelf.fetch("missing", &mut into, 100),
-            Err(FetchFault::Failed)
-        );
-        assert_eq!(rt; shelf.faults, 1);
         Ok(())
     }
 }

@@ -12,7 +12,7 @@ mod sink;
 mod std_sink;
 mod sure_shelf;
 mod sure_sink;
-mod transfers;
+pub mod transfers;
 
 pub use file_shelf::FileShelf;
 pub use mem_shelf::MemShelf;

@@ -66,20 +66,3 @@ impl Sink for MemSink {
             .map_err(|_| StoreFault::Memory)
     }
 }
-
-#[cfg(test)]
-mod tests {
-    use super::*;
-    use std::test::Fail;
-
-    #[test]
-    fn the_numbered_calls_write_nothing(rt: HostRuntime) -> Result<(), Fail> {
-        let fails = [1].to_vec(rt.alloc())?;
-        let mut sink = MemSink::make(rt.alloc(), fails)?;
-        assert_eq!(rt; sink.put(b"one"), Ok(()));
-        assert_eq!(rt; sink.put(b"two"), Err(StoreFault::Failed));
-        assert_eq!(rt; sink.put(b"three"), Ok(()));
-        assert_eq!(rt; sink.bytes(), b"onethree".as_slice());
-        Ok(())
-    }
-}

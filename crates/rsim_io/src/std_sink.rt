@@ -42,16 +42,3 @@ impl<R: Print + Drop> Sink for StdSink<R> {
         Ok(())
     }
 }
-
-#[cfg(test)]
-mod tests {
-    use super::*;
-    use std::test::Fail;
-
-    #[test]
-    fn standard_output_takes_a_line(rt: HostRuntime) -> Result<(), Fail> {
-        let mut sink = StdSink::new(&rt);
-        sink.put(b"a line\n")?;
-        Ok(())
-    }
-}

@@ -102,33 +102,3 @@ impl Shelf for SureShelf {
         self.files.append(name, bytes)
     }
 }
-
-#[cfg(test)]
-mod tests {
-    use super::*;
-    use std::test::Fail;
-
-    #[test]
-    fn only_a_fetch_of_what_is_not_held_fails(rt: HostRuntime) -> Result<(), Fail> {
-        let mut shelf = SureShelf::make(rt.alloc())?;
-        shelf.set("kernel", b"bytes")?;
-        let mut whole = Vec::new(rt.alloc());
-        assert_eq!(rt; shelf.fetch("kernel", &mut whole, 5), Ok(()));
-        assert_eq!(rt; whole.as_slice(), b"bytes".as_slice());
-        let mut past = Vec::new(rt.alloc());
-        assert_eq!(rt;
-            shelf.fetch("kernel", &mut past, 2),
-            Err(FetchFault::TooLarge)
-        );
-        assert_eq!(rt; past.as_slice(), b"byt".as_slice());
-        let mut none = Vec::new(rt.alloc());
-        assert_eq!(rt; shelf.fetch("log", &mut none, 9), Err(FetchFault::Failed));
-        assert_eq!(rt; shelf.append("log", b"one"), Ok(()));
-        assert_eq!(rt; shelf.append("log", b"two"), Ok(()));
-        assert_eq!(rt; shelf.file("log").ok_or("not held")?, b"onetwo".as_slice());
-        assert_eq!(rt; shelf.create("log"), Ok(()));
-        assert_eq!(rt; shelf.file("log").ok_or("not held")?, b"".as_slice());
-        assert!(rt; shelf.file("other").is_none());
-        Ok(())
-    }
-}

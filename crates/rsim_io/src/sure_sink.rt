@@ -58,18 +58,3 @@ impl Sink for SureSink {
             .map_err(|_| StoreFault::Memory)
     }
 }
-
-#[cfg(test)]
-mod tests {
-    use super::*;
-    use std::test::Fail;
-
-    #[test]
-    fn all_is_written(rt: HostRuntime) -> Result<(), Fail> {
-        let mut sink = SureSink::make(rt.alloc())?;
-        assert_eq!(rt; sink.put(b"one"), Ok(()));
-        assert_eq!(rt; sink.put(b"two"), Ok(()));
-        assert_eq!(rt; sink.bytes(), b"onetwo".as_slice());
-        Ok(())
-    }
-}

@@ -1,4 +1,4 @@
-// Bytes from a reader and to a writer, and what a fault leaves.
+//! Bytes from a reader and to a writer, and what a fault leaves.
 ghost use Rattle.std.specs.Prelude.{◌≡◌, ◌≢◌, ◌-◌, ◌^◌, ◌<◌, ◌≤◌, [], length, IfOk, IfErr, None};
 ghost use Rattle.rsim_io.specs.Files.{Fetches};
 ghost use Rattle.rsim_io.specs.Transfers.{ReadsUpTo, ReadsMore, WritesWhole};
@@ -9,12 +9,11 @@ use std::io::{Read, Write};
 // How many bytes are asked for at once.
 const CHUNK: usize = 16384;
 
-// Reads to the end of the file, or to one byte past the limit.
-pub(crate) fn read_up_to<F: Read>(
-    file: &mut F,
-    into: &mut Vec<u8>,
-    limit: u64,
-) -> Result<(), FetchFault>
+/// Reads to the end of the file, or to one byte past the limit.
+///
+/// # Errors
+/// `TooLarge` where the file has more bytes than the limit; `Failed` where a read fails; `Memory`.
+pub fn read_up_to<F: Read>(file: &mut F, into: &mut Vec<u8>, limit: u64) -> Result<(), FetchFault>
     requires empty { into.old.items ≡ [] }
     requires limit { limit < 2 ^ 64 - 1 }
     ensures fetched { Fetches None [] limit result into.new.items }
@@ -47,8 +46,11 @@ fn read_more<F: Read>(
     Ok(count)
 }
 
-// Writes all the bytes. A file that takes none of them has failed.
-pub(crate) fn write_whole<F: Write>(file: &mut F, bytes: &[u8]) -> Result<(), StoreFault>
+/// Writes all the bytes.
+///
+/// # Errors
+/// `Failed` where a write fails or takes no byte.
+pub fn write_whole<F: Write>(file: &mut F, bytes: &[u8]) -> Result<(), StoreFault>
     ensures fault { result ≢ Err StoreFault.Memory }
     ensures bytes { WritesWhole (F.contents file.old) bytes.now result (F.contents file.new) }
 {
@@ -60,57 +62,4 @@ pub(crate) fn write_whole<F: Write>(file: &mut F, bytes: &[u8]) -> Result<(), St
         }
     }
     Ok(())
-}
-
-#[cfg(test)]
-mod tests {
-    use super::*;
-    use std::io;
-    use std::io::ErrorKind;
-    use std::test::Fail;
-
-    // A file that gives or takes one byte a call, until the call that fails.
-    #[derive(Drop)]
-    struct Faulty {
-        calls_left: u32,
-    }
-
-    impl Faulty {
-        fn one_byte(&mut self, room: usize) -> io::Result<usize>
-            ensures { IfOk result (λ count. count ≤ room) }
-        {
-            if self.calls_left == 0 {
-                return Err(ErrorKind::Other.into());
-            }
-            self.calls_left -= 1;
-            Ok(room.min(1))
-        }
-    }
-
-    impl Read for Faulty {
-        fn read(&mut self, buf: &mut [u8]) -> io::Result<usize> {
-            self.one_byte(buf.len())
-        }
-    }
-
-    impl Write for Faulty {
-        fn write(&mut self, buf: &[u8]) -> io::Result<usize> {
-            self.one_byte(buf.len())
-        }
-
-        fn flush(&mut self) -> io::Result<()> {
-            Ok(())
-        }
-    }
-
-    #[test]
-    fn a_fault_in_the_middle_is_no_end_of_the_file(rt: HostRuntime) -> Result<(), Fail> {
-        let mut into = Vec::new(rt.alloc());
-        let fetched = read_up_to(&mut Faulty { calls_left: 3 }, &mut into, 100);
-        assert_eq!(rt; fetched, Err(FetchFault::Failed));
-        let mut file = Faulty { calls_left: 3 };
-        assert_eq!(rt; write_whole(&mut file, b"one"), Ok(()));
-        assert_eq!(rt; write_whole(&mut file, b"two"), Err(StoreFault::Failed));
-        Ok(())
-    }
 }

@@ -4,6 +4,7 @@ use Rattle.std.specs.List.{All}
 use Rattle.std.proofs.lemmas.List.{length-map}
 use Rattle.std.proofs.lemmas.List.Sums.{sum-map, sum_by-le}
 use Rattle.std.proofs.lemmas.Option.{slice_get-get_or, slice_get_within}
+use Rattle.rsim_base.specs.Limits.{max_steps}
 use Rattle.rsim_base.specs.Made.{Made}
 use Rattle.rsim_base.specs.declared.memory.Access.{Access}
 use Rattle.elf64_load.specs.Image.{ImageView}
@@ -20,8 +21,9 @@ use Rattle.cycle_loop.specs.Stands.{Closed}
 use Rattle.rsim_top.specs.Accepted.{IsAccepted}
 use Rattle.rsim_top.specs.Machine.{accesses_of, certificate_of, counts_of, order_of}
 use Rattle.rsim_top.specs.Run.{HasRun}
-use Rattle.rsim_top.proofs.Places.{slice_get_below, slice_get_unmapped}
-use Rattle.rsim_top.proofs.Running.{AreSizes, few_cycles, few_steps, sizes_of}
+use Rattle.list_facts.specs.Places.{slice_get_below, slice_get_unmapped}
+use Rattle.rsim_top.proofs.Running.{few_cycles, few_steps}
+use Rattle.machine_config.specs.Sizes.{AreSizes, sizes_of}
 
 -- ---- counts
 
@@ -31,7 +33,7 @@ all_counted cycles cores counted = sum_by-le (λ (c : CoreView). c.retired) cycl
     each : All (λ (c : CoreView). c.retired ≤ cycles) cores
     each k d within = (counted k (get_or cores k d) (slice_get-get_or cores k d within)).retired
 
-few_retired : (image : ImageView) (config : Config) (cycles : ℕ) (v : MachineView) → HasRun image config cycles v → AreSizes config → is_short config cycles ≡ true → all_retired v.cores ≤ 8000000
+few_retired : (image : ImageView) (config : Config) (cycles : ℕ) (v : MachineView) → HasRun image config cycles v → AreSizes config → is_short config cycles ≡ true → all_retired v.cores ≤ max_steps
 few_retired image config cycles v ran sizes short =
     let all = all_counted v.cycles v.cores ran.counted in
     let within = ran.within in
@@ -72,7 +74,7 @@ in_text image config cycles v ran sizes short closed j e at =
     let number = has.within in
     let within = ran.within in
     let few = few_cycles config cycles sizes short in
-    let most = sizes.most in
+    let most = sizes.processors.1 in
     let count = ran.count in
     let told = closed.told j e at in
     record { node = omega arith; index = omega arith; printable = told.printable; loaded = told.loaded; stored = told.stored }
@@ -85,8 +87,8 @@ is_certificate image config cycles v ran sizes short =
     let few = few_retired image config cycles v ran sizes short in
     let count = ran.count in
     record {
-      some = let some = sizes.some in omega arith;
-      most = let most = sizes.most in omega arith;
+      some = let some = sizes.processors.0 in omega arith;
+      most = let most = sizes.processors.1 in omega arith;
       counts = length-map v.cores (λ (c : CoreView). c.retired);
       few_steps = let same : sum (counts_of v) ≡ all_retired v.cores = sum-map (λ (c : CoreView). c.retired) v.cores in omega arith;
       few_lines = let lines : length (accesses_of v) ≤ all_retired v.cores = closed.few in omega arith;

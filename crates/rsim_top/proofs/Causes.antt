@@ -1,6 +1,7 @@
 -- That each cause of a run's answer is always answered, and that where nothing is wrong and nothing fails nothing is refused.
 use Rattle.std.proofs.Common.{◌≡◌, ◌⊎◌, ◌*◌, ℕ, nat_le, not, Bool, true, false, List, Option, Some, None, option_map, Result, Ok, Err, ⊎_elim, inl, inr, subst, refl}
 use Rattle.std.specs.Option.{option_or}
+use Rattle.rsim_base.specs.Limits.{max_steps}
 use Rattle.machine_config.specs.declared.fault.ConfigFault.{ConfigFault}
 use Rattle.machine_config.specs.Faults.{first_fault as config_fault, given}
 use Rattle.machine_config.specs.Keys.{processors, retire_width}
@@ -69,7 +70,7 @@ settled : (old new : Outside) (want : RunAsked) (exe : List ℕ) → IsSettled (
 settled old new want exe = record {
   reads = λ text bytes which says. says;
   done = λ text bytes result. done old new want text bytes result;
-  refuses = λ text bytes which. no_read (config_fault text) (not (nat_le (want.cycles * given text processors * given text retire_width) 8000000)) (elf_fault bytes) which;
+  refuses = λ text bytes which. no_read (config_fault text) (not (nat_le (want.cycles * given text processors * given text retire_width) max_steps)) (elf_fault bytes) which;
   apart = λ same. absurd cc;
 }
 
@@ -95,7 +96,7 @@ failed words old new which answer shelf sink = ⊎_elim (λ short. let no = shor
     by_executable : (want : RunAsked) (executable : AskedExecutable) → AnswersExecutable old new want executable (Err (refusal.Write which)) → ⊥
     by_executable want (generated seed) says = let no = says.0 in absurd cc
     by_executable want (file name) says = failed_write (AnswersRun old new want) old new (run_files want.cycles want.config name) which
-        (λ text bytes. no_write (config_fault text) (not (nat_le (want.cycles * given text processors * given text retire_width) 8000000)) (elf_fault bytes))
+        (λ text bytes. no_write (config_fault text) (not (nat_le (want.cycles * given text processors * given text retire_width) max_steps)) (elf_fault bytes))
         (λ text bytes. by_run which shelf sink want text bytes) says
 
     by_words : (asked : Result RunAsked WordsFault) → AnswersWords old new asked (Err (refusal.Write which)) → ⊥

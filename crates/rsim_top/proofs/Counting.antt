@@ -3,7 +3,7 @@ use Rattle.std.proofs.Common.{◌≡◌, ◌≤◌, ◌<◌, ◌+◌, ℕ, List,
 use Rattle.std.proofs.lemmas.List.Sums.{sum_by-cons}
 use Rattle.cycle_loop.specs.Answers.{IsOf, all_retired}
 use Rattle.cycle_loop.specs.Machine.{CoreView}
-use Rattle.rsim_top.proofs.Places.{slice_get_below}
+use Rattle.list_facts.specs.Places.{slice_get_below}
 use Rattle.rsim_top.proofs.Texts.{drop_next, drop_past}
 
 -- with processor p counted too

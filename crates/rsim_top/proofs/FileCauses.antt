@@ -10,7 +10,7 @@ use Rattle.rsim_top.specs.declared.refusal.Refusal.TheVariants as refusal
 use Rattle.rsim_top.specs.FileCauses.{IsRefused, IsHeld, IsMissing, IsDone, AreReady, AreExact, AreComplete}
 use Rattle.rsim_top.specs.Outside.{Outside, MayFail}
 use Rattle.rsim_top.specs.TwoFiles.{TwoFiles, IsFetched, when, fetch_refusal, first_refusal, AnswersFetched, AnswersFiles}
-use Rattle.rsim_top.proofs.Places.{Some-injective}
+use Rattle.list_facts.specs.Options.{Some-injective}
 
 -- ---- what was fetched
 

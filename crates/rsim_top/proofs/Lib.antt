@@ -11,7 +11,6 @@ pub mod FileCauses
 pub mod Hex
 pub mod Judging
 pub mod OrderFiles
-pub mod Places
 pub mod Running
 pub mod Setups
 pub mod Stored

@@ -1,9 +1,10 @@
 -- Runs, cycle by cycle.
 use Rattle.std.proofs.Common.{◌≡◌, ◌⊎◌, ◌*◌, ◌≤◌, ◌<◌, ℕ, true, false, [], ◌∷◌, length, refl, sym, ap, subst, ◌∙◌, inl, inr, ⊎_elim, arith}
 use Rattle.std.proofs.lemmas.Bool.{cases_lt, leb-true}
+use Rattle.rsim_base.specs.Limits.{max_steps}
 use Rattle.elf64_load.specs.Image.{ImageView}
 use Rattle.machine_config.specs.Allowed.{IsAllowed, is_short}
-use Rattle.machine_config.specs.Keys.{keys}
+use Rattle.machine_config.specs.Sizes.{AreSizes}
 use Rattle.machine_config.specs.declared.config.Config.{Config}
 use Rattle.cycle_loop.specs.Answers.{have_ended}
 use Rattle.cycle_loop.specs.Machine.{CoreCycle, MachineView}
@@ -13,32 +14,19 @@ use Rattle.cycle_loop.specs.Stands.{Closed}
 use Rattle.rsim_base.specs.declared.memory.Model.{Model}
 use Rattle.rsim_top.specs.Run.{HasCycled, HasRun, IsCycle, IsMade, RunsOn}
 
--- ---- the sizes of a machine
-
-pub record AreSizes (config : Config) : Type 0 where
-  pub some : 1 ≤ config.processors
-  pub most : config.processors ≤ 16
-  pub retires : 1 ≤ config.retire_width
-
-pub sizes_of : (config : Config) → IsAllowed config → AreSizes config
-unfolding keys
-sizes_of config allowed =
-    let (processors, (_, (_, (_, (_, (_, (_, (_, (_, (_, (_, (_, (_, (_, (_, (_, (retires, _))))))))))))))))) = allowed.rows in
-    record { some = processors.0; most = processors.1; retires = retires.0 }
-
 -- all processors together retire so few steps
-pub few_steps : (config : Config) (cycles : ℕ) → AreSizes config → is_short config cycles ≡ true → config.processors * cycles ≤ 8000000
+pub few_steps : (config : Config) (cycles : ℕ) → AreSizes config → is_short config cycles ≡ true → config.processors * cycles ≤ max_steps
 few_steps config cycles sizes short =
-    let within : cycles * config.processors * config.retire_width ≤ 8000000 = leb-true (cycles * config.processors * config.retire_width) 8000000 short in
-    let retires = sizes.retires in
+    let within : cycles * config.processors * config.retire_width ≤ max_steps = leb-true (cycles * config.processors * config.retire_width) max_steps short in
+    let retires = sizes.retire_width.0 in
     let more : cycles * config.processors ≤ cycles * config.processors * config.retire_width = grind (arith, retires) in
     let same : config.processors * cycles ≡ cycles * config.processors = omega arith in
     omega arith
 
-pub few_cycles : (config : Config) (cycles : ℕ) → AreSizes config → is_short config cycles ≡ true → cycles ≤ 8000000
+pub few_cycles : (config : Config) (cycles : ℕ) → AreSizes config → is_short config cycles ≡ true → cycles ≤ max_steps
 few_cycles config cycles sizes short =
     let all = few_steps config cycles sizes short in
-    let some = sizes.some in
+    let some = sizes.processors.0 in
     let more : cycles ≤ config.processors * cycles = grind (arith, some) in
     omega arith
 

@@ -8,7 +8,7 @@ use Rattle.cycle_loop.specs.Answers.{IsOf, waiting_stores}
 use Rattle.cycle_loop.specs.Machine.{CoreView, MachineView}
 use Rattle.rsim_top.specs.Machine.{accesses_of, counts_of, order_of, report_of}
 use Rattle.rsim_top.specs.ReportText.{count_lines, counter_names, no_counts, output_text, outputs_text, processor_line, processor_lines, report, report_foot, report_head}
-use Rattle.rsim_top.proofs.Places.{slice_get_below}
+use Rattle.list_facts.specs.Places.{slice_get_below}
 
 -- the heading, all lines, and the end
 pub order_of-parts : (model : Model) (v : MachineView) → (heading model (length v.cores) ++ flat_map line (accesses_of v)) ++ ending (counts_of v) ≡ order_of model v
@@ -99,6 +99,13 @@ counts_put = record { none = λ p. refl; more = λ p c cs. refl }
 
 pub head_put : (before mid text : List ℕ) (cycles : ℕ) → mid ≡ before ++ codes "rsim report 1\ncycles " → text ≡ mid ++ decimal cycles ++ 10 ∷ [] → text ≡ before ++ report_head cycles
 head_put before mid text cycles one two = two ∙ ap (λ t. t ++ decimal cycles ++ 10 ∷ []) one ∙ simp append_assoc
+
+pub output_put : (before one two three four text out : List ℕ) (p : ℕ) → one ≡ before ++ codes "output " → two ≡ one ++ decimal p ++ 32 ∷ [] → three ≡ two ++ decimal (length out) ++ 10 ∷ [] → four ≡ three ++ out →
+    text ≡ four ++ codes "\n" → text ≡ before ++ output_text p out
+output_put before one two three four text out p first second third fourth last =
+    last
+    ∙ ap (λ t. t ++ codes "\n") (fourth ∙ ap (λ t. t ++ out) (third ∙ ap (λ t. t ++ decimal (length out) ++ 10 ∷ []) (second ∙ ap (λ t. t ++ decimal p ++ 32 ∷ []) first)))
+    ∙ simp append_assoc
 
 -- the counters where nothing is counted
 abbrev pub uncounted : List ℕ

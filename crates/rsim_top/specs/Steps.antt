@@ -1,6 +1,7 @@
 -- The steps of the commands before anything is written, and what each of them refuses.
 use Rattle.std.specs.Prelude.{ℕ, ◌*◌, not, nat_le, List, Option, option_map}
 use Rattle.std.specs.Option.{option_or}
+use Rattle.rsim_base.specs.Limits.{max_steps}
 use Rattle.machine_config.specs.Faults.{first_fault as config_fault, given}
 use Rattle.machine_config.specs.Keys.{processors, retire_width}
 use Rattle.elf64_load.specs.Faults.{first_fault as elf_fault}
@@ -23,7 +24,7 @@ longest_order = 1073741824
 abbrev pub setup_refusal : ℕ → List ℕ → Option Refusal
 setup_refusal cycles text =
     option_or (option_map refusal.Config (config_fault text))
-    (when (not (nat_le (cycles * given text processors * given text retire_width) 8000000)) refusal.TooLong)
+    (when (not (nat_le (cycles * given text processors * given text retire_width) max_steps)) refusal.TooLong)
 
 -- an executable with a fault
 abbrev pub image_refusal : List ℕ → Option Refusal

@@ -1,6 +1,6 @@
 -- A verdict on an order: its text, and the exit status of the program that tells it.
 use Rattle.std.specs.Prelude.{ℕ, List, ◌++◌, codes, decimal}
-use Rattle.order_checker.specs.Told.{rejected_text}
+use Rattle.order_checker.specs.RejectedText.{rejected_text}
 use Rattle.rsim_top.specs.declared.verdict.Verdict.{Verdict}
 use Rattle.rsim_top.specs.declared.verdict.Verdict.TheVariants.{Accepted, Rejected}
 

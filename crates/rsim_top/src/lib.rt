@@ -8,7 +8,6 @@ mod order_file;
 mod program;
 mod refusal;
 mod report_text;
-mod text;
 mod verdict;
 
 pub use checking::check_command;

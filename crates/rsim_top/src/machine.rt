@@ -1,5 +1,6 @@
 // The machine that a command runs.
 ghost use Rattle.std.specs.Prelude.{◌≡◌, ◌≤◌, false, true, IfOk, OnOk, [], length};
+ghost use Rattle.rsim_base.specs.Limits.{max_steps};
 ghost use Rattle.machine_config.specs.Allowed.{IsAllowed, is_short};
 ghost use Rattle.rsim_base.specs.declared.memory.Model.{Model};
 ghost use Rattle.cycle_loop.specs.Stands.{Stands};
@@ -42,7 +43,7 @@ pub(crate) fn run(
 // Runs until so many cycles have run, or each processor has ended.
 fn run_cycles(machine: &mut SharedMachine, cycles: u32) -> Result<(), NoMemory>
     requires open { machine.old.closed ≡ false }
-    requires few { cycles ≤ 8000000 }
+    requires few { cycles ≤ max_steps }
     ensures ran { OnOk result (RunsOn machine.old.image cycles (shared_view machine.old) (shared_view machine.new)) }
     ensures stands { (model : Model) → Stands machine.old.image model [] (shared_view machine.old) → OnOk result (Stands machine.new.image model [] (shared_view machine.new)) }
     ensures image { machine.new.image ≡ machine.old.image }

@@ -4,7 +4,7 @@ ghost use Rattle.rsim_top.specs.Machine.{counts_of, ends_of, shared_view, output
 ghost use Rattle.rsim_top.specs.ReportText.{end_text, no_counts, output_text, outputs_text, processor_line, processor_lines, report_foot, report_head};
 
 use crate::machine::SharedMachine;
-use crate::text::{push, push_decimal};
+use rsim_base::texts::{push, push_decimal};
 use rsim_base::{NoMemory, Node};
 use sparc_meaning::End;
 use std::alloc::Global;

@@ -8,7 +8,8 @@ mod effects;
 mod fields;
 mod forms;
 mod instr;
-mod laws;
+mod kinds;
+pub mod laws;
 mod memory;
 mod operands;
 mod registers;
@@ -16,10 +17,5 @@ mod registers;
 pub use decoder::decode;
 pub use effects::{dest, sources, window_effect};
 pub use instr::{Instr, Op, Src2};
-pub use laws::{
-    each_row_decides, fields_are_in_range, no_word_fits_two_rows, unnamed_bits_are_free,
-};
+pub use kinds::{FormKind, kind, unit_of};
 pub use operands::{Dest, Sources, WindowEffect};
-
-#[cfg(test)]
-mod tests;

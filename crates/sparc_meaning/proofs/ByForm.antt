@@ -1,50 +1,51 @@
 -- What the forms of each kind read and write, form by form.
-use Rattle.std.proofs.Common.{◌≡◌, ◌==◌, ◌&&◌, ℕ, Bool, true, false, not, if◌then◌else◌, Option, Some, None, refl, ap}
+use Rattle.std.proofs.Common.{◌≡◌, ◌==◌, ◌&&◌, ℕ, Bool, true, false, not, if◌then◌else◌, Some, None, refl, ap}
 use Rattle.std.proofs.lemmas.Bool.{eqb-true}
 use Rattle.sparc_decode.specs.declared.instr.Instr.{Instr}
 use Rattle.sparc_decode.specs.declared.instr.Op.{Op}
 use Rattle.sparc_decode.specs.declared.instr.Op.TheVariants as op
 use Rattle.sparc_decode.specs.Effects.{reads_rs1, reads_src2, reads_rd, reads_cc, reads_y, writes_rd, writes_cc, writes_y, looks_at_codes, third_of_form, written_by_form}
+use Rattle.sparc_decode.specs.declared.kinds.FormKind.{FormKind}
+use Rattle.sparc_decode.specs.declared.kinds.FormKind.TheVariants as kinds
+use Rattle.sparc_decode.specs.Kinds.{kind}
 use Rattle.sparc_alu.specs.Conditions.{holds, holds_of_register, codes_for, taken_by_form}
 use Rattle.sparc_alu.specs.Results as alu
-use Rattle.sparc_meaning.specs.Forms as form
-use Rattle.sparc_meaning.specs.Forms.{Kind, kind}
 
 -- the kinds whose forms read both operands
-unfoldable pub totals : Kind → Bool
-totals form.traps_if_taken = true
-totals form.jumps = true
-totals form.returns = true
-totals form.saves = true
-totals form.restores = true
-totals (form.loads n) = true
-totals (form.stores n) = true
-totals form.load_stores_byte = true
-totals form.swaps = true
-totals (form.compares_and_swaps n) = true
+unfoldable pub totals : FormKind → Bool
+totals kinds.TrapsIfTaken = true
+totals kinds.Jumps = true
+totals kinds.Returns = true
+totals kinds.Saves = true
+totals kinds.Restores = true
+totals (kinds.Loads n) = true
+totals (kinds.Stores n) = true
+totals kinds.LoadsAndStoresByte = true
+totals kinds.Swaps = true
+totals (kinds.ComparesAndSwaps n) = true
 totals _ = false
 
 -- those whose forms read rd
-unfoldable pub thirds : Kind → Bool
-thirds form.moves = true
-thirds (form.stores n) = true
-thirds form.swaps = true
-thirds (form.compares_and_swaps n) = true
+unfoldable pub thirds : FormKind → Bool
+thirds kinds.Moves = true
+thirds (kinds.Stores n) = true
+thirds kinds.Swaps = true
+thirds (kinds.ComparesAndSwaps n) = true
 thirds _ = false
 
 -- those whose forms write rd, if any register
-unfoldable pub puts_rd : Kind → Bool
-puts_rd form.jumps = true
-puts_rd form.moves = true
-puts_rd form.sets_high = true
-puts_rd form.reads_pc = true
-puts_rd form.saves = true
-puts_rd form.restores = true
-puts_rd (form.loads n) = true
-puts_rd form.load_stores_byte = true
-puts_rd form.swaps = true
-puts_rd (form.compares_and_swaps n) = true
-puts_rd form.computes = true
+unfoldable pub puts_rd : FormKind → Bool
+puts_rd kinds.Jumps = true
+puts_rd kinds.Moves = true
+puts_rd kinds.SetsHigh = true
+puts_rd kinds.ReadsPc = true
+puts_rd kinds.Saves = true
+puts_rd kinds.Restores = true
+puts_rd (kinds.Loads n) = true
+puts_rd kinds.LoadsAndStoresByte = true
+puts_rd kinds.Swaps = true
+puts_rd (kinds.ComparesAndSwaps n) = true
+puts_rd kinds.Computes = true
 puts_rd _ = false
 
 -- the form reads both operands
@@ -71,7 +72,7 @@ y_reads op.Trap e = record { first = cc; second = cc }
 y_reads _ e = record { first = cc; second = cc }
 
 -- moves read operand 2
-pub move_reads : (o : Op) → kind o ≡ form.moves → reads_src2 o ≡ true
+pub move_reads : (o : Op) → kind o ≡ kinds.Moves → reads_src2 o ≡ true
 unfolding kind reads_src2
 move_reads op.Trap e = cc
 move_reads _ e = cc
@@ -95,7 +96,7 @@ third_is op.Trap rd e = cc
 third_is _ rd e = cc
 
 -- which is register 8 where the form asks for a service
-pub third_asks : (o : Op) (rd : ℕ) → kind o ≡ form.traps_if_taken → third_of_form o rd ≡ Some 8
+pub third_asks : (o : Op) (rd : ℕ) → kind o ≡ kinds.TrapsIfTaken → third_of_form o rd ≡ Some 8
 unfolding third_of_form kind
 third_asks op.Trap rd e = cc
 third_asks _ rd e = cc
@@ -103,7 +104,7 @@ third_asks _ rd e = cc
 -- ---- the destination
 
 -- CALL writes register 15
-pub call_puts : (o : Op) (rd : ℕ) → kind o ≡ form.calls → written_by_form o rd ≡ Some 15
+pub call_puts : (o : Op) (rd : ℕ) → kind o ≡ kinds.Calls → written_by_form o rd ≡ Some 15
 unfolding kind written_by_form
 call_puts op.Trap rd e = cc
 call_puts _ rd e = cc
@@ -121,15 +122,15 @@ unread op.Trap e f = cc
 unread _ e f = cc
 
 -- kinds whose forms write no register
-unfoldable pub puts_none : Kind → Bool
-puts_none form.traps = true
-puts_none form.branches_on_codes = true
-puts_none form.branches_on_register = true
-puts_none form.returns = true
-puts_none form.traps_if_taken = true
-puts_none form.fences = true
-puts_none form.does_nothing = true
-puts_none (form.stores n) = true
+unfoldable pub puts_none : FormKind → Bool
+puts_none kinds.Traps = true
+puts_none kinds.BranchesOnCodes = true
+puts_none kinds.BranchesOnRegister = true
+puts_none kinds.Returns = true
+puts_none kinds.TrapsIfTaken = true
+puts_none kinds.Fences = true
+puts_none kinds.DoesNothing = true
+puts_none (kinds.Stores n) = true
 puts_none _ = false
 
 pub none_is : (o : Op) (rd : ℕ) → puts_none (kind o) ≡ true → written_by_form o rd ≡ None
@@ -138,8 +139,8 @@ none_is op.Trap rd e = refl
 none_is _ rd e = cc
 
 -- the kind of arithmetic
-unfoldable pub calculates : Kind → Bool
-calculates form.computes = true
+unfoldable pub calculates : FormKind → Bool
+calculates kinds.Computes = true
 calculates _ = false
 
 -- the other kinds set no codes
@@ -182,7 +183,7 @@ value_a op.Trap a a' b c y e = cc
 value_a _ a a' b c y e = cc
 
 -- the same of operand 2
-pub value_b : (o : Op) (a b b' c y : ℕ) → kind o ≡ form.computes → reads_src2 o ≡ false → alu.value o a b' c y ≡ alu.value o a b c y
+pub value_b : (o : Op) (a b b' c y : ℕ) → kind o ≡ kinds.Computes → reads_src2 o ≡ false → alu.value o a b' c y ≡ alu.value o a b c y
 unfolding kind reads_src2 alu.value
 value_b op.Trap a b b' c y e f = cc
 value_b _ a b b' c y e f = cc

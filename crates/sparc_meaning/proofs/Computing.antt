@@ -1,5 +1,5 @@
 -- A step is what its operands compute, applied to the state.
-use Rattle.std.proofs.Common.{◌≡◌, ◌+◌, ◌-◌, ◌*◌, ◌%◌, ◌^◌, ◌==◌, ◌&&◌, ℕ, Bool, true, false, not, nat_lt, if◌then◌else◌, List, Option, Some, None, Result, Ok, Err, refl, sym, ap, ◌∙◌, slice_set, slice_index}
+use Rattle.std.proofs.Common.{◌≡◌, ◌+◌, ◌%◌, ◌==◌, ◌&&◌, ℕ, Bool, true, false, not, nat_lt, if◌then◌else◌, Option, Some, None, Result, Ok, Err, refl, sym, ap, ◌∙◌, slice_set, slice_index}
 use Rattle.std.proofs.lemmas.List.{set-get_or}
 use Rattle.rsim_base.specs.Bytes.{count_of, low_bytes}
 use Rattle.rsim_base.specs.declared.memory.Size.{Size}
@@ -12,21 +12,21 @@ use Rattle.sparc_decode.specs.declared.instr.Op.TheVariants as op
 use Rattle.sparc_decode.specs.declared.instr.Src2.{Src2}
 use Rattle.sparc_decode.specs.declared.instr.Src2.TheVariants.{Reg, Imm}
 use Rattle.sparc_decode.specs.Effects.{reads_rs1, reads_src2, reads_rd, reads_cc, reads_y, writes_rd, writes_cc, writes_y, written_by_form, written_of, window_effect_of_form, window_effect_of}
-use Rattle.sparc_decode.specs.Instr.{instr}
 use Rattle.sparc_decode.specs.Facts.{unused_rd}
+use Rattle.sparc_decode.specs.declared.kinds.FormKind.{FormKind}
+use Rattle.sparc_decode.specs.declared.kinds.FormKind.TheVariants as kinds
+use Rattle.sparc_decode.specs.Kinds.{kind}
 use Rattle.sparc_alu.specs.declared.arithmetic.AluOut.{AluOut}
 use Rattle.sparc_alu.specs.declared.arithmetic.DivisionByZero.{DivisionByZero}
 use Rattle.sparc_alu.specs.Accesses.{effective, extended, swapped}
 use Rattle.sparc_alu.specs.Numbers.{twos_complement}
 use Rattle.sparc_alu.specs.Results as alu
-use Rattle.sparc_meaning.specs.declared.acts.Act.{Act}
-use Rattle.sparc_meaning.specs.declared.acts.Act.TheVariants.{Nothing, Out, Load, Store, Atomic, Fence, End as Ended}
+use Rattle.sparc_meaning.specs.declared.acts.Act.TheVariants.{Nothing, Out, Load, Store, Atomic}
 use Rattle.sparc_meaning.specs.declared.acts.Spoken.{Spoken}
 use Rattle.sparc_meaning.specs.declared.acts.Spoken.TheVariants.{Byte, Number}
 use Rattle.sparc_meaning.specs.declared.arch.Arch.{Arch}
 use Rattle.sparc_meaning.specs.declared.arch.ArchPhase.{ArchPhase}
 use Rattle.sparc_meaning.specs.declared.arch.ArchPhase.TheVariants.{Run, Spill, Fill}
-use Rattle.sparc_meaning.specs.declared.arch.End.{End}
 use Rattle.sparc_meaning.specs.declared.arch.End.TheVariants.{Running, Exit, Trapped}
 use Rattle.sparc_meaning.specs.declared.fetched.Computed.{Computed}
 use Rattle.sparc_meaning.specs.declared.fetched.Fetched.{Fetched}
@@ -35,12 +35,12 @@ use Rattle.sparc_meaning.specs.Applied.{applied, act_by, result_by, with_destina
 use Rattle.sparc_meaning.specs.Arch.{place, register, register_of, with_register_of}
 use Rattle.sparc_meaning.specs.Computed as by
 use Rattle.sparc_meaning.specs.Computed.{computed, computed_by}
-use Rattle.sparc_meaning.specs.Fetched.{part_of, part_at, next_of, operands, moved, windows_by, phase_after}
+use Rattle.sparc_meaning.specs.Fetched.{part_of, part_at, operands, moved}
 use Rattle.sparc_meaning.specs.Forms as form
-use Rattle.sparc_meaning.specs.Forms.{Kind, kind, executed}
+use Rattle.sparc_meaning.specs.Forms.{executed}
 use Rattle.sparc_meaning.specs.Laws.{StepIsComputed}
-use Rattle.sparc_meaning.specs.Step.{step, in_phase, of_instr, instr_of, instr_at}
-use Rattle.sparc_meaning.specs.Stepped.{Stepped, accessed, argument, branched, by_slot_to, then_to, at, pair_of, ends, next, goes_on, service, trapped}
+use Rattle.sparc_meaning.specs.Step.{step, in_phase, instr_of, instr_at}
+use Rattle.sparc_meaning.specs.Stepped.{Stepped, accessed, argument, branched, by_slot_to, then_to, at, pair_of, ends, next, goes_on, trapped}
 use Rattle.sparc_meaning.specs.Windows.{windows_of, with_windows, window_above, window_below, one_less_kept, one_more_kept, spills_first, fills_first, spill, fill, spilled, filled, slot, slot_register, after_fill}
 use Rattle.sparc_meaning.proofs.ByForm.{totals, thirds, puts_rd, puts_none, calculates, total_reads, codes_read, y_reads, move_reads, divides_reads, third_reads, third_is, third_asks, call_puts, written_is, unread, none_is, codes_unset, y_unset, taken_same, value_a, value_b, value_cc, value_y, codes_cc, codes_kept, y_written, y_kept, by_read}
 
@@ -54,7 +54,7 @@ record Reads (i : Instr) (s : Arch) (x : Operands) : Type 0 where
   first : reads_rs1 i.op ≡ true → x.a ≡ form.first i s
   second : reads_src2 i.op ≡ true → by.second i.src2 x ≡ form.second i s
   third : reads_rd i.op ≡ true → x.c ≡ register s i.rd
-  argument : kind i.op ≡ form.traps_if_taken → x.c ≡ argument s
+  argument : kind i.op ≡ kinds.TrapsIfTaken → x.c ≡ argument s
   codes : reads_cc i.op i.cond ≡ true → x.cc ≡ s.cc
   y : reads_y i.op ≡ true → x.y ≡ s.y
 
@@ -121,10 +121,10 @@ put_rd false o w rd value s f e none = rw (written_is o rd e, f, none (unread o 
 -- ---- what is known of a kind
 
 -- the windows that a kind goes to
-unfoldable moved_by : Kind → Window → Window
-moved_by form.saves w = window_above w
-moved_by form.restores w = window_below w
-moved_by form.returns w = window_below w
+unfoldable moved_by : FormKind → Window → Window
+moved_by kinds.Saves w = window_above w
+moved_by kinds.Restores w = window_below w
+moved_by kinds.Returns w = window_below w
 moved_by _ w = w
 
 moved_is : (o : Op) (w : Window) → moved (window_effect_of_form o) w ≡ moved_by (kind o) w
@@ -135,7 +135,7 @@ moved_is op.Return w = refl
 moved_is op.Flushw w = refl
 moved_is _ w = refl
 
-record Parts (k : Kind) (i : Instr) (s : Arch) (x : Operands) : Type 0 where
+record Parts (k : FormKind) (i : Instr) (s : Arch) (x : Operands) : Type 0 where
   is : kind i.op ≡ k
   runs : s.phase ≡ Run
   first : totals k ≡ true → x.a ≡ form.first i s
@@ -153,7 +153,7 @@ record Parts (k : Kind) (i : Instr) (s : Arch) (x : Operands) : Type 0 where
 effective_same : (a a' b b' : ℕ) → a' ≡ a → b' ≡ b → effective a' b' ≡ effective a b
 effective_same a a' b b' e f = cc
 
-parts : (k : Kind) (i : Instr) (s : Arch) (x : Operands) → kind i.op ≡ k → s.phase ≡ Run → (reads_rd i.op ≡ false → writes_rd i.op ≡ false → i.rd ≡ 0) → Reads i s x → Parts k i s x
+parts : (k : FormKind) (i : Instr) (s : Arch) (x : Operands) → kind i.op ≡ k → s.phase ≡ Run → (reads_rd i.op ≡ false → writes_rd i.op ≡ false → i.rd ≡ 0) → Reads i s x → Parts k i s x
 parts k i s x is runs unused reads = record {
   is = is;
   runs = runs;
@@ -162,7 +162,7 @@ parts k i s x is runs unused reads = record {
   total = λ e. effective_same (form.first i s) _ (form.second i s) _ (reads.first (total_reads i.op (rw is e)).first) (reads.second (total_reads i.op (rw is e)).second);
   third = λ e. reads.third (third_reads i.op (rw is e));
   taken = taken_same i.op i s.cc x.cc (form.first i s) x.a reads.codes reads.first;
-  windows = moved_is i.op (windows_of s) ∙ ap (λ (n : Kind). moved_by n (windows_of s)) is;
+  windows = moved_is i.op (windows_of s) ∙ ap (λ (n : FormKind). moved_by n (windows_of s)) is;
   none = λ e. none_is i.op i.rd (rw is e);
   puts = λ e w value. put_rd (writes_rd i.op) i.op w i.rd value s refl (rw is e) unused;
   no_codes = λ e. codes_unset i.op (rw is e);
@@ -172,13 +172,13 @@ parts k i s x is runs unused reads = record {
 -- ---- where a step ends up
 
 -- one that writes no register
-bare : (k : Kind) (i : Instr) (s : Arch) (x : Operands) (c : Computed) (w : Window) (loaded : ℕ) → Parts k i s x → moved_by k (windows_of s) ≡ w
+bare : (k : FormKind) (i : Instr) (s : Arch) (x : Operands) (c : Computed) (w : Window) (loaded : ℕ) → Parts k i s x → moved_by k (windows_of s) ≡ w
     → c.end ≡ Running → puts_none k ≡ true → calculates k ≡ false
     → record { state = at c.next (with_windows w s); act = act_by k (running i s) x c loaded } ≡ applied (running i s) x c loaded s
 bare k i s x c w loaded p moves runs none unset = rw (p.is, runs, p.none none, p.no_codes unset, p.no_y unset, p.windows, moves, p.runs) refl
 
 -- one that writes register r, and the codes and Y where its form sets them
-lands : (k : Kind) (i : Instr) (s : Arch) (x : Operands) (c : Computed) (w : Window) (r loaded : ℕ) → Parts k i s x → moved_by k (windows_of s) ≡ w
+lands : (k : FormKind) (i : Instr) (s : Arch) (x : Operands) (c : Computed) (w : Window) (r loaded : ℕ) → Parts k i s x → moved_by k (windows_of s) ≡ w
     → with_destination (written_of i) w.cwp (result_by k i (record c { end = Running }) loaded) s ≡ with_register_of w.cwp r (result_by k i (record c { end = Running }) loaded) s
     → record {
       state = at c.next (record (put w.cwp r (result_by k i (record c { end = Running }) loaded) s (with_windows w s)) {
@@ -191,7 +191,7 @@ unfolding result_by act_by written_by_form writes_cc writes_y window_effect_of_f
 lands k i s x c w r loaded p moves puts = rw (p.is, p.windows, moves, puts, p.runs) refl
 
 -- one that writes register r alone
-wrote : (k : Kind) (i : Instr) (s : Arch) (x : Operands) (c : Computed) (w : Window) (r loaded : ℕ) → Parts k i s x → moved_by k (windows_of s) ≡ w
+wrote : (k : FormKind) (i : Instr) (s : Arch) (x : Operands) (c : Computed) (w : Window) (r loaded : ℕ) → Parts k i s x → moved_by k (windows_of s) ≡ w
     → with_destination (written_of i) w.cwp (result_by k i (record c { end = Running }) loaded) s ≡ with_register_of w.cwp r (result_by k i (record c { end = Running }) loaded) s
     → calculates k ≡ false
     → record {
@@ -202,7 +202,7 @@ unfolding result_by act_by written_by_form writes_cc writes_y window_effect_of_f
 wrote k i s x c w r loaded p moves puts unset = rw (p.is, p.windows, moves, puts, p.no_codes unset, p.no_y unset, p.runs) refl
 
 -- one that writes it and goes on to a pair
-wrote_on : (k : Kind) (i : Instr) (s : Arch) (x : Operands) (c : Computed) (w : Window) (r loaded : ℕ) (go : Arch → Arch) → Parts k i s x → moved_by k (windows_of s) ≡ w
+wrote_on : (k : FormKind) (i : Instr) (s : Arch) (x : Operands) (c : Computed) (w : Window) (r loaded : ℕ) (go : Arch → Arch) → Parts k i s x → moved_by k (windows_of s) ≡ w
     → with_destination (written_of i) w.cwp (result_by k i (record c { end = Running }) loaded) s ≡ with_register_of w.cwp r (result_by k i (record c { end = Running }) loaded) s
     → calculates k ≡ false
     → go (put w.cwp r (result_by k i (record c { end = Running }) loaded) s (with_windows w s)) ≡ at c.next (put w.cwp r (result_by k i (record c { end = Running }) loaded) s (with_windows w s))
@@ -232,7 +232,7 @@ faults false false f x c loaded s done p = p
 -- ---- arithmetic
 
 -- so the values are the same
-value_same : (i : Instr) (s : Arch) (x : Operands) → kind i.op ≡ form.computes → Reads i s x
+value_same : (i : Instr) (s : Arch) (x : Operands) → kind i.op ≡ kinds.Computes → Reads i s x
     → alu.value i.op x.a (by.second i.src2 x) x.cc x.y ≡ alu.value i.op (form.first i s) (form.second i s) s.cc s.y
 value_same i s x is reads =
     let o = i.op in
@@ -263,7 +263,7 @@ set_or_kept false c c' kept p q = q refl
 abbrev result : Bool → ℕ → ℕ → ℕ → Result AluOut DivisionByZero
 result fault value c y = if fault then Err (record {}) else Ok (record { value = value; cc = c; y = y })
 
-written_same : (fault fault' : Bool) (value value' c c' y y' : ℕ) (i : Instr) (s : Arch) (x : Operands) (loaded : ℕ) → Parts form.computes i s x → fault' ≡ fault → value' ≡ value
+written_same : (fault fault' : Bool) (value value' c c' y y' : ℕ) (i : Instr) (s : Arch) (x : Operands) (loaded : ℕ) → Parts kinds.Computes i s x → fault' ≡ fault → value' ≡ value
     → c ≡ (if writes_cc i.op then c' else s.cc) → y ≡ (if writes_y i.op then y' else s.y)
     → form.written (result fault value c y) i s ≡ applied (running i s) x (by.written (result fault' value' c' y') (running i s)) loaded s
 unfolding moved_by act_by result_by puts_rd
@@ -272,7 +272,7 @@ written_same false fault' value value' c c' y y' i s x loaded p same is e h =
     let out = by.written (Ok (record { value = value; cc = c'; y = y' })) (running i s) in
     rw (same, is) (
     ap (goes_on Nothing) (put_at s.cwp i.rd value s (record s { cc = c; y = y }))
-    ∙ rw (e, h) (lands form.computes i s x out (windows_of s) i.rd loaded p refl (p.puts refl s.cwp value)))
+    ∙ rw (e, h) (lands kinds.Computes i s x out (windows_of s) i.rd loaded p refl (p.puts refl s.cwp value)))
 
 -- ---- the kinds
 
@@ -285,18 +285,18 @@ serves number a s =
     else trapped (0x100 + number) s
 
 -- trap instructions by their number
-served_is : (number : ℕ) (i : Instr) (s : Arch) (x : Operands) (loaded : ℕ) → Parts form.traps_if_taken i s x
+served_is : (number : ℕ) (i : Instr) (s : Arch) (x : Operands) (loaded : ℕ) → Parts kinds.TrapsIfTaken i s x
     → serves number x.c s ≡ applied (running i s) x (by.served number (running i s) x) loaded s
 unfolding moved_by act_by puts_none calculates
 served_is number i s x loaded p =
     let f = running i s in
-    let speaks = λ (words : Spoken). bare form.traps_if_taken i s x (record (by.plain f) { out = Some words }) (windows_of s) loaded p refl refl refl refl in
+    let speaks = λ (words : Spoken). bare kinds.TrapsIfTaken i s x (record (by.plain f) { out = Some words }) (windows_of s) loaded p refl refl refl refl in
     either (number == 16) f x loaded s (ends (Exit x.c) s) _ (record (by.plain f) { end = Exit x.c }) _ refl
     (either (number == 17) f x loaded s _ _ _ _ (speaks (Byte (x.c % 256)))
     (either (number == 18) f x loaded s _ (trapped (0x100 + number) s) _ (by.traps_by (0x100 + number) f) (speaks (Number x.c)) refl))
 
 -- a value put into rd, and on to the next instruction
-puts_rd_is : (k : Kind) (i : Instr) (s : Arch) (x : Operands) (w : Window) (value loaded : ℕ) → Parts k i s x → moved_by k (windows_of s) ≡ w → puts_rd k ≡ true → calculates k ≡ false
+puts_rd_is : (k : FormKind) (i : Instr) (s : Arch) (x : Operands) (w : Window) (value loaded : ℕ) → Parts k i s x → moved_by k (windows_of s) ≡ w → puts_rd k ≡ true → calculates k ≡ false
     → result_by k i (by.gives value (running i s)) loaded ≡ value → act_by k (running i s) x (by.gives value (running i s)) loaded ≡ Nothing
     → goes_on Nothing (with_register_of w.cwp i.rd value (with_windows w s)) ≡ applied (running i s) x (by.gives value (running i s)) loaded s
 puts_rd_is k i s x w value loaded p moves writes unset is quiet =
@@ -306,16 +306,16 @@ puts_rd_is k i s x w value loaded p moves writes unset is quiet =
     ∙ wrote_on k i s x c w i.rd loaded next p moves (p.puts writes w.cwp (result_by k i c loaded)) unset refl)
 
 -- a move that is made, or not
-moved_if : (b : Bool) (value kept : ℕ) (i : Instr) (s : Arch) (x : Operands) (loaded : ℕ) → Parts form.moves i s x → kept ≡ register s i.rd
+moved_if : (b : Bool) (value kept : ℕ) (i : Instr) (s : Arch) (x : Operands) (loaded : ℕ) → Parts kinds.Moves i s x → kept ≡ register s i.rd
     → goes_on Nothing (if b then with_register_of s.cwp i.rd value s else s) ≡ applied (running i s) x (by.gives (if b then value else kept) (running i s)) loaded s
 unfolding moved_by act_by result_by puts_rd calculates
-moved_if true value kept i s x loaded p e = puts_rd_is form.moves i s x (windows_of s) value loaded p refl refl refl refl refl
+moved_if true value kept i s x loaded p e = puts_rd_is kinds.Moves i s x (windows_of s) value loaded p refl refl refl refl refl
 moved_if false value kept i s x loaded p e =
     ap (goes_on Nothing) (sym (own s.cwp i.rd s)) ∙ (ap (λ n. goes_on Nothing (with_register_of s.cwp i.rd n s)) (sym e)
-    ∙ puts_rd_is form.moves i s x (windows_of s) kept loaded p refl refl refl refl refl)
+    ∙ puts_rd_is kinds.Moves i s x (windows_of s) kept loaded p refl refl refl refl refl)
 
 -- an atomic access
-exchanged : (k : Kind) (n : Size) (addr stored : ℕ) (image : ImageView) (i : Instr) (s : Arch) (x : Operands) (loaded : ℕ) → Parts k i s x → moved_by k (windows_of s) ≡ windows_of s
+exchanged : (k : FormKind) (n : Size) (addr stored : ℕ) (image : ImageView) (i : Instr) (s : Arch) (x : Operands) (loaded : ℕ) → Parts k i s x → moved_by k (windows_of s) ≡ windows_of s
     → puts_rd k ≡ true → calculates k ≡ false → ((c : Computed) → result_by k i c loaded ≡ extended i.op loaded)
     → ((c : Computed) → act_by k (running i s) x c loaded ≡ Atomic (record { 0 = c.addr }) n loaded stored)
     → form.exchange n addr stored image i s loaded ≡ applied (running i s) x (by.exchange n addr image (running i s)) loaded s
@@ -326,74 +326,74 @@ exchanged k n addr stored image i s x loaded p moves writes unset result act =
     ∙ (ap (λ m. let y : Stepped = record { state = next (with_register_of s.cwp i.rd (result_by k i c loaded) s); act = m } in y) (sym (act c))
     ∙ wrote_on k i s x c (windows_of s) i.rd loaded next p moves (p.puts writes s.cwp (result_by k i c loaded)) unset refl))
 
-executed_is : (k : Kind) (image : ImageView) (i : Instr) (s : Arch) (x : Operands) (loaded : ℕ) → Reads i s x → Parts k i s x
+executed_is : (k : FormKind) (image : ImageView) (i : Instr) (s : Arch) (x : Operands) (loaded : ℕ) → Reads i s x → Parts k i s x
     → executed k image i s loaded ≡ applied (running i s) x (computed_by k image (running i s) x) loaded s
 unfolding executed computed_by totals thirds puts_rd puts_none calculates moved_by act_by result_by
-executed_is form.traps image i s x loaded reads p = refl
-executed_is form.branches_on_codes image i s x loaded reads p =
-    rw p.taken (bare form.branches_on_codes i s x (record (by.plain (running i s)) {
+executed_is kinds.Traps image i s x loaded reads p = refl
+executed_is kinds.BranchesOnCodes image i s x loaded reads p =
+    rw p.taken (bare kinds.BranchesOnCodes i s x (record (by.plain (running i s)) {
       next = branched (i.cond == 8) (form.is_taken i s) i.annul (effective s.pc (twos_complement i.disp)) (pair_of s);
       taken = form.is_taken i s;
     }) (windows_of s) loaded p refl refl refl refl)
-executed_is form.branches_on_register image i s x loaded reads p =
-    rw p.taken (bare form.branches_on_register i s x (record (by.plain (running i s)) {
+executed_is kinds.BranchesOnRegister image i s x loaded reads p =
+    rw p.taken (bare kinds.BranchesOnRegister i s x (record (by.plain (running i s)) {
       next = branched false (form.is_taken i s) i.annul (effective s.pc (twos_complement i.disp)) (pair_of s);
       taken = form.is_taken i s;
     }) (windows_of s) loaded p refl refl refl refl)
-executed_is form.calls image i s x loaded reads p =
+executed_is kinds.Calls image i s x loaded reads p =
     let target = effective s.pc (twos_complement i.disp) in
-    wrote_on form.calls i s x (record (by.plain (running i s)) { next = by_slot_to target (pair_of s); value = s.pc }) (windows_of s) 15 loaded (then_to target) p refl
+    wrote_on kinds.Calls i s x (record (by.plain (running i s)) { next = by_slot_to target (pair_of s); value = s.pc }) (windows_of s) 15 loaded (then_to target) p refl
     (rw (call_puts i.op i.rd p.is) refl) refl refl
-executed_is form.jumps image i s x loaded reads p =
+executed_is kinds.Jumps image i s x loaded reads p =
     let target = form.total i s in
     let c = record (by.plain (running i s)) { next = by_slot_to target (pair_of s); value = s.pc } in
     rw (p.total refl) (either (target % 4 == 0) (running i s) x loaded s _ (trapped 0x034 s) c (by.traps_by 0x034 (running i s))
-    (wrote_on form.jumps i s x c (windows_of s) i.rd loaded (then_to target) p refl (p.puts refl s.cwp s.pc) refl refl) refl)
-executed_is form.returns image i s x loaded reads p =
+    (wrote_on kinds.Jumps i s x c (windows_of s) i.rd loaded (then_to target) p refl (p.puts refl s.cwp s.pc) refl refl) refl)
+executed_is kinds.Returns image i s x loaded reads p =
     let target = form.total i s in
     let c = record (by.plain (running i s)) { next = by_slot_to target (pair_of s); value = s.pc } in
     rw (p.total refl) (either (target % 4 == 0) (running i s) x loaded s _ (trapped 0x034 s) c (by.traps_by 0x034 (running i s))
-    (bare form.returns i s x c (window_below (windows_of s)) loaded p refl refl refl refl) refl)
-executed_is form.moves image i s x loaded reads p =
+    (bare kinds.Returns i s x c (window_below (windows_of s)) loaded p refl refl refl refl) refl)
+executed_is kinds.Moves image i s x loaded reads p =
     rw (p.taken, reads.second (move_reads i.op p.is)) (moved_if (form.is_taken i s) (form.second i s) x.c i s x loaded p (p.third refl))
-executed_is form.traps_if_taken image i s x loaded reads p =
+executed_is kinds.TrapsIfTaken image i s x loaded reads p =
     let f = running i s in
     rw (p.taken, p.total refl) (
     ap (λ a. let y : Stepped = if form.is_taken i s then serves (form.total i s % 128) a s else goes_on Nothing s in y) (sym (reads.argument p.is))
     ∙ either (form.is_taken i s) f x loaded s _ _ _ _ (served_is (form.total i s % 128) i s x loaded p)
-    (bare form.traps_if_taken i s x (by.plain f) (windows_of s) loaded p refl refl refl refl))
-executed_is form.sets_high image i s x loaded reads p = puts_rd_is form.sets_high i s x (windows_of s) (twos_complement i.disp) loaded p refl refl refl refl refl
-executed_is form.reads_pc image i s x loaded reads p = puts_rd_is form.reads_pc i s x (windows_of s) s.pc loaded p refl refl refl refl refl
-executed_is form.fences image i s x loaded reads p = bare form.fences i s x (by.plain (running i s)) (windows_of s) loaded p refl refl refl refl
-executed_is form.does_nothing image i s x loaded reads p = bare form.does_nothing i s x (by.plain (running i s)) (windows_of s) loaded p refl refl refl refl
-executed_is form.saves image i s x loaded reads p =
-    rw (p.total refl) (puts_rd_is form.saves i s x (window_above (windows_of s)) (form.total i s) loaded p refl refl refl refl refl)
-executed_is form.restores image i s x loaded reads p =
-    rw (p.total refl) (puts_rd_is form.restores i s x (window_below (windows_of s)) (form.total i s) loaded p refl refl refl refl refl)
-executed_is (form.loads n) image i s x loaded reads p =
+    (bare kinds.TrapsIfTaken i s x (by.plain f) (windows_of s) loaded p refl refl refl refl))
+executed_is kinds.SetsHigh image i s x loaded reads p = puts_rd_is kinds.SetsHigh i s x (windows_of s) (twos_complement i.disp) loaded p refl refl refl refl refl
+executed_is kinds.ReadsPc image i s x loaded reads p = puts_rd_is kinds.ReadsPc i s x (windows_of s) s.pc loaded p refl refl refl refl refl
+executed_is kinds.Fences image i s x loaded reads p = bare kinds.Fences i s x (by.plain (running i s)) (windows_of s) loaded p refl refl refl refl
+executed_is kinds.DoesNothing image i s x loaded reads p = bare kinds.DoesNothing i s x (by.plain (running i s)) (windows_of s) loaded p refl refl refl refl
+executed_is kinds.Saves image i s x loaded reads p =
+    rw (p.total refl) (puts_rd_is kinds.Saves i s x (window_above (windows_of s)) (form.total i s) loaded p refl refl refl refl refl)
+executed_is kinds.Restores image i s x loaded reads p =
+    rw (p.total refl) (puts_rd_is kinds.Restores i s x (window_below (windows_of s)) (form.total i s) loaded p refl refl refl refl refl)
+executed_is (kinds.Loads n) image i s x loaded reads p =
     let addr = form.total i s in
     let c = record (by.plain (running i s)) { addr = addr } in
     rw (p.total refl) (faults (not (addr % count_of n == 0)) (not (is_readable image addr (count_of n))) (running i s) x c loaded s _
-    (wrote_on (form.loads n) i s x c (windows_of s) i.rd loaded next p refl (p.puts refl s.cwp _) refl refl))
-executed_is (form.stores n) image i s x loaded reads p =
+    (wrote_on (kinds.Loads n) i s x c (windows_of s) i.rd loaded next p refl (p.puts refl s.cwp _) refl refl))
+executed_is (kinds.Stores n) image i s x loaded reads p =
     let addr = form.total i s in
     let c = record (by.plain (running i s)) { addr = addr } in
     rw (p.total refl) (
     ap (λ m. accessed n addr (is_writable image addr (count_of n)) (goes_on (Store (record { 0 = addr }) n (low_bytes n m)) s) s) (sym (p.third refl))
     ∙ faults (not (addr % count_of n == 0)) (not (is_writable image addr (count_of n))) (running i s) x c loaded s _
-    (bare (form.stores n) i s x c (windows_of s) loaded p refl refl refl refl))
-executed_is form.load_stores_byte image i s x loaded reads p =
-    rw (p.total refl) (exchanged form.load_stores_byte B1 (form.total i s) 0xFF image i s x loaded p refl refl refl (λ c. refl) (λ c. refl))
-executed_is form.swaps image i s x loaded reads p =
+    (bare (kinds.Stores n) i s x c (windows_of s) loaded p refl refl refl refl))
+executed_is kinds.LoadsAndStoresByte image i s x loaded reads p =
+    rw (p.total refl) (exchanged kinds.LoadsAndStoresByte B1 (form.total i s) 0xFF image i s x loaded p refl refl refl (λ c. refl) (λ c. refl))
+executed_is kinds.Swaps image i s x loaded reads p =
     rw (p.total refl) (
     ap (λ m. form.exchange B4 (form.total i s) (low_bytes B4 m) image i s loaded) (sym (p.third refl))
-    ∙ exchanged form.swaps B4 (form.total i s) (low_bytes B4 x.c) image i s x loaded p refl refl refl (λ c. refl) (λ c. refl))
-executed_is (form.compares_and_swaps n) image i s x loaded reads p =
+    ∙ exchanged kinds.Swaps B4 (form.total i s) (low_bytes B4 x.c) image i s x loaded p refl refl refl (λ c. refl) (λ c. refl))
+executed_is (kinds.ComparesAndSwaps n) image i s x loaded reads p =
     ap (λ a. form.exchange n a (form.kept_or_swapped n i s loaded) image i s loaded) (sym (p.first refl))
     ∙ (ap (λ b. form.exchange n x.a (swapped loaded b (low_bytes n (register s i.rd)) n) image i s loaded) (sym (p.second refl))
     ∙ (ap (λ m. form.exchange n x.a (swapped loaded (by.second i.src2 x) (low_bytes n m) n) image i s loaded) (sym (p.third refl))
-    ∙ exchanged (form.compares_and_swaps n) n x.a (swapped loaded (by.second i.src2 x) (low_bytes n x.c) n) image i s x loaded p refl refl refl (λ c. refl) (λ c. refl)))
-executed_is form.computes image i s x loaded reads p =
+    ∙ exchanged (kinds.ComparesAndSwaps n) n x.a (swapped loaded (by.second i.src2 x) (low_bytes n x.c) n) image i s x loaded p refl refl refl (λ c. refl) (λ c. refl)))
+executed_is kinds.Computes image i s x loaded reads p =
     let o = i.op in
     let a = form.first i s in
     let b = form.second i s in

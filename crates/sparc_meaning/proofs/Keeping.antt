@@ -9,13 +9,14 @@ use Rattle.sparc_decode.specs.declared.instr.Op.{Op}
 use Rattle.sparc_decode.specs.declared.instr.Op.TheVariants.{Restore}
 use Rattle.sparc_decode.specs.Instr.{instr}
 use Rattle.sparc_decode.specs.Facts.{in_range}
+use Rattle.sparc_decode.specs.Kinds.{kind}
 use Rattle.sparc_meaning.specs.declared.acts.Act.TheVariants.{Nothing, Load, Store}
 use Rattle.sparc_meaning.specs.declared.arch.Arch.{Arch}
 use Rattle.sparc_meaning.specs.declared.arch.ArchPhase.{ArchPhase}
 use Rattle.sparc_meaning.specs.declared.arch.ArchPhase.TheVariants.{Run, Spill, Fill}
 use Rattle.sparc_meaning.specs.Arch.{above, below, place, register, register_of, with_register, with_register_of}
-use Rattle.sparc_meaning.specs.Forms.{kind, executed, total}
-use Rattle.sparc_meaning.specs.Kept.{CanBeKept, IsGivenBack, MustFill, MustSpill, WindowsAreKept, act_after, steps}
+use Rattle.sparc_meaning.specs.Forms.{executed, total}
+use Rattle.sparc_meaning.specs.KeptWindows.{CanBeKept, IsGivenBack, MustFill, MustSpill, WindowsAreKept, act_after, steps}
 use Rattle.sparc_meaning.specs.Step.{step, in_phase, of_instr}
 use Rattle.sparc_meaning.specs.Stepped.{Stepped, accessed, goes_on, next}
 use Rattle.sparc_meaning.specs.Windows.{restored, spills_first, fills_first, spilled, filled, slot, slot_register, after_spill, after_fill, spill, fill}

@@ -1,5 +1,5 @@
 -- What a processor runs next is of the kind that there is, and names registers of the window.
-use Rattle.std.proofs.Common.{◌≡◌, ◌+◌, ◌<◌, ◌≤◌, ◌==◌, ◌&&◌, ℕ, Bool, true, false, not, if◌then◌else◌, Option, Some, None, IfSome, refl, sym, ◌∙◌, arith, lit<}
+use Rattle.std.proofs.Common.{◌≡◌, ◌+◌, ◌<◌, ◌≤◌, ℕ, Bool, true, false, if◌then◌else◌, Some, None, IfSome, refl, sym, arith, lit<}
 use Rattle.std.proofs.lemmas.Bool.{eqb-true, not-true, eqb-false}
 use Rattle.rsim_base.specs.declared.processor.Window.{Window}
 use Rattle.sparc_decode.specs.declared.instr.Instr.{Instr}
@@ -8,6 +8,8 @@ use Rattle.sparc_decode.specs.declared.instr.Op.TheVariants as op
 use Rattle.sparc_decode.specs.declared.operands.WindowEffect.{WindowEffect}
 use Rattle.sparc_decode.specs.declared.operands.WindowEffect.TheVariants as effect
 use Rattle.sparc_decode.specs.Effects.{third_of_form, written_by_form, window_effect_of_form}
+use Rattle.sparc_decode.specs.declared.kinds.FormKind.TheVariants as kinds
+use Rattle.sparc_decode.specs.Kinds.{kind}
 use Rattle.sparc_decode.specs.Ranges.{IsInRange}
 use Rattle.sparc_meaning.specs.declared.arch.Arch.{Arch}
 use Rattle.sparc_meaning.specs.declared.arch.ArchPhase.{ArchPhase}
@@ -67,3 +69,22 @@ part_at-IsFetched i s in_range sound = record {
   instr = in_range;
   part = part_is s.phase i.op s refl sound;
 }
+
+-- ---- instructions that need no spill or fill
+
+-- a SAVE has a window to save to
+pub save_has_room : (o : Op) (s : Arch) → kind o ≡ kinds.Saves → spills_first o s ≡ false → 1 ≤ s.cansave
+unfolding kind spills_first
+save_has_room op.Save s is needs_none = let some = eqb-false s.cansave 0 needs_none in omega arith
+save_has_room _ s is needs_none = absurd cc
+
+-- and RESTORE and RETURN one to restore from
+pub restore_has_kept : (o : Op) (s : Arch) → kind o ≡ kinds.Restores → fills_first o s ≡ false → 1 ≤ s.canrestore
+unfolding kind fills_first
+restore_has_kept op.Restore s is needs_none = let some = eqb-false s.canrestore 0 needs_none in omega arith
+restore_has_kept _ s is needs_none = absurd cc
+
+pub return_has_kept : (o : Op) (s : Arch) → kind o ≡ kinds.Returns → fills_first o s ≡ false → 1 ≤ s.canrestore
+unfolding kind fills_first
+return_has_kept op.Return s is needs_none = let some = eqb-false s.canrestore 0 needs_none in omega arith
+return_has_kept _ s is needs_none = absurd cc

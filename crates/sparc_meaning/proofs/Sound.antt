@@ -1,6 +1,6 @@
 -- Each step of a sound state gives a sound one: what it runs is of the kind that there is, and what that does keeps the
 -- windows sound.
-use Rattle.std.proofs.Common.{◌≡◌, ◌+◌, ◌-◌, ◌<◌, ◌≤◌, ◌==◌, ℕ, Bool, true, false, if◌then◌else◌, Option, Some, None, refl, sym, subst, arith}
+use Rattle.std.proofs.Common.{◌≡◌, ◌+◌, ◌≤◌, ◌==◌, ℕ, Bool, true, false, if◌then◌else◌, Option, Some, None, refl, sym, subst, arith}
 use Rattle.std.proofs.lemmas.Bool.{eqb-false}
 use Rattle.rsim_base.specs.declared.processor.Window.{Window}
 use Rattle.elf64_load.specs.Image.{ImageView, fetched}
@@ -8,7 +8,6 @@ use Rattle.sparc_decode.specs.declared.instr.Instr.{Instr}
 use Rattle.sparc_decode.specs.declared.operands.WindowEffect.{WindowEffect}
 use Rattle.sparc_decode.specs.declared.operands.WindowEffect.TheVariants as effect
 use Rattle.sparc_decode.specs.Effects.{window_effect_of}
-use Rattle.sparc_decode.specs.Instr.{instr}
 use Rattle.sparc_decode.specs.Ranges.{IsInRange}
 use Rattle.sparc_decode.specs.Facts.{in_range}
 use Rattle.sparc_meaning.specs.declared.acts.Act.{Act}
@@ -19,7 +18,7 @@ use Rattle.sparc_meaning.specs.declared.arch.End.{End}
 use Rattle.sparc_meaning.specs.Applied.{advanced, act_in}
 use Rattle.sparc_meaning.specs.Arch.{IsSound, IsPhase, is_running}
 use Rattle.sparc_meaning.specs.Computed.{computed}
-use Rattle.sparc_meaning.specs.Fetched.{AreWindows, IsPart, IsFetched, next_of, operands, moved, windows_by, phase_after, spills_by, fills_by}
+use Rattle.sparc_meaning.specs.Fetched.{AreWindows, IsPart, next_of, operands, moved, windows_by, phase_after, spills_by, fills_by}
 use Rattle.sparc_meaning.specs.Step.{step, instr_of, instr_at}
 use Rattle.sparc_meaning.specs.Stepped.{Stepped, ends}
 use Rattle.sparc_meaning.specs.Windows.{one_less_kept, one_more_kept}

@@ -7,6 +7,9 @@ use Rattle.sparc_decode.specs.declared.instr.Op.TheVariants as op
 use Rattle.sparc_decode.specs.declared.instr.Src2.{Src2}
 use Rattle.sparc_decode.specs.declared.instr.Src2.TheVariants.{Reg, Imm}
 use Rattle.sparc_decode.specs.Effects.{window_effect_of_form}
+use Rattle.sparc_decode.specs.declared.kinds.FormKind.{FormKind}
+use Rattle.sparc_decode.specs.declared.kinds.FormKind.TheVariants as kinds
+use Rattle.sparc_decode.specs.Kinds.{kind}
 use Rattle.sparc_alu.specs.Accesses.{effective}
 use Rattle.sparc_meaning.specs.declared.acts.Act.{Act}
 use Rattle.sparc_meaning.specs.declared.acts.Act.TheVariants.{Nothing, Out, Load, Store, Atomic, Fence, End as Ended}
@@ -23,8 +26,6 @@ use Rattle.sparc_meaning.specs.Arch.{is_running}
 use Rattle.sparc_meaning.specs.Computed as by
 use Rattle.sparc_meaning.specs.Computed.{computed, computed_by, computed_in}
 use Rattle.sparc_meaning.specs.Fetched.{next_of, operands, spills_by, fills_by}
-use Rattle.sparc_meaning.specs.Forms as form
-use Rattle.sparc_meaning.specs.Forms.{Kind, kind}
 use Rattle.sparc_meaning.specs.Laws.{EndsAlone, OthersIgnoreTheValue, AddressesAlone, EffectsAsk, accesses, accesses_by, adds, adds_by}
 use Rattle.sparc_meaning.specs.Run.{uses_value}
 use Rattle.sparc_meaning.specs.Step.{step}
@@ -76,13 +77,13 @@ sum_same a a' b b' e h = cc
 total_same : (f : Fetched) (x x' : Operands) → x'.a ≡ x.a → x'.b ≡ x.b → by.total f x' ≡ by.total f x
 total_same f x x' e h = sum_same x.a x'.a (by.second f.instr.src2 x) (by.second f.instr.src2 x') e (second_same f.instr.src2 x x' h)
 
-by_address : (k : Kind) (image : ImageView) (f : Fetched) (x x' : Operands) → accesses_by k ≡ true → x'.a ≡ x.a → (adds_by k ≡ true → x'.b ≡ x.b) → computed_by k image f x' ≡ computed_by k image f x
+by_address : (k : FormKind) (image : ImageView) (f : Fetched) (x x' : Operands) → accesses_by k ≡ true → x'.a ≡ x.a → (adds_by k ≡ true → x'.b ≡ x.b) → computed_by k image f x' ≡ computed_by k image f x
 unfolding computed_by accesses_by adds_by
-by_address (form.loads n) image f x x' e a b = ap (λ addr. by.load n addr image f) (total_same f x x' a (b refl))
-by_address (form.stores n) image f x x' e a b = ap (λ addr. by.store n addr image f) (total_same f x x' a (b refl))
-by_address form.load_stores_byte image f x x' e a b = ap (λ addr. by.exchange B1 addr image f) (total_same f x x' a (b refl))
-by_address form.swaps image f x x' e a b = ap (λ addr. by.exchange B4 addr image f) (total_same f x x' a (b refl))
-by_address (form.compares_and_swaps n) image f x x' e a b = ap (λ addr. by.exchange n addr image f) a
+by_address (kinds.Loads n) image f x x' e a b = ap (λ addr. by.load n addr image f) (total_same f x x' a (b refl))
+by_address (kinds.Stores n) image f x x' e a b = ap (λ addr. by.store n addr image f) (total_same f x x' a (b refl))
+by_address kinds.LoadsAndStoresByte image f x x' e a b = ap (λ addr. by.exchange B1 addr image f) (total_same f x x' a (b refl))
+by_address kinds.Swaps image f x x' e a b = ap (λ addr. by.exchange B4 addr image f) (total_same f x x' a (b refl))
+by_address (kinds.ComparesAndSwaps n) image f x x' e a b = ap (λ addr. by.exchange n addr image f) a
 by_address _ image f x x' e a b = absurd cc
 
 by_part : (part : ArchPhase) (image : ImageView) (f : Fetched) (x x' : Operands) → accesses part (kind f.instr.op) ≡ true → x'.a ≡ x.a → (adds part (kind f.instr.op) ≡ true → x'.b ≡ x.b)

@@ -1,9 +1,12 @@
 -- What a step that gives this does to a state, with the value that it loads.
-use Rattle.std.specs.Prelude.{ℕ, Bool, if◌then◌else◌, Option, Some, None}
+use Rattle.std.specs.Prelude.{ℕ, if◌then◌else◌, Option, Some, None}
 use Rattle.rsim_base.specs.Bytes.{low_bytes}
 use Rattle.rsim_base.specs.declared.memory.Size.{Size}
 use Rattle.rsim_base.specs.declared.memory.Size.TheVariants.{B1, B4, B8}
 use Rattle.sparc_decode.specs.declared.instr.Instr.{Instr}
+use Rattle.sparc_decode.specs.declared.kinds.FormKind.{FormKind}
+use Rattle.sparc_decode.specs.declared.kinds.FormKind.TheVariants.{Fences, Loads, Stores, LoadsAndStoresByte, Swaps, ComparesAndSwaps}
+use Rattle.sparc_decode.specs.Kinds.{kind}
 use Rattle.sparc_alu.specs.Accesses.{extended, swapped}
 use Rattle.sparc_meaning.specs.declared.acts.Act.{Act}
 use Rattle.sparc_meaning.specs.declared.acts.Act.TheVariants.{Nothing, Load, Store, Atomic, Fence, Out}
@@ -17,15 +20,14 @@ use Rattle.sparc_meaning.specs.declared.fetched.Operands.{Operands}
 use Rattle.sparc_meaning.specs.Arch.{is_running, with_register_of}
 use Rattle.sparc_meaning.specs.Computed.{second}
 use Rattle.sparc_meaning.specs.Fetched.{dest_by, windows_by, written_in, phase_after}
-use Rattle.sparc_meaning.specs.Forms.{Kind, kind, fences, loads, stores, load_stores_byte, swaps, compares_and_swaps}
 use Rattle.sparc_meaning.specs.Stepped.{Stepped, ends}
 
 -- the value that is written: a load or an atomic writes what it has loaded, extended
-unfoldable pub result_by : Kind → Instr → Computed → ℕ → ℕ
-result_by (loads n) i c loaded = extended i.op loaded
-result_by load_stores_byte i c loaded = extended i.op loaded
-result_by swaps i c loaded = extended i.op loaded
-result_by (compares_and_swaps n) i c loaded = extended i.op loaded
+unfoldable pub result_by : FormKind → Instr → Computed → ℕ → ℕ
+result_by (Loads n) i c loaded = extended i.op loaded
+result_by LoadsAndStoresByte i c loaded = extended i.op loaded
+result_by Swaps i c loaded = extended i.op loaded
+result_by (ComparesAndSwaps n) i c loaded = extended i.op loaded
 result_by _ i c loaded = c.value
 
 abbrev pub result_in : ArchPhase → Instr → Computed → ℕ → ℕ
@@ -66,13 +68,13 @@ abbrev pub compared : Size → Fetched → Operands → Computed → ℕ → Act
 compared n f x c loaded = Atomic (record { 0 = c.addr }) n loaded (swapped loaded (second f.instr.src2 x) (low_bytes n x.c) n)
 
 -- what it does beside
-unfoldable pub act_by : Kind → Fetched → Operands → Computed → ℕ → Act
-act_by fences f x c loaded = Fence f.instr.mask
-act_by (loads n) f x c loaded = Load (record { 0 = c.addr }) n loaded
-act_by (stores n) f x c loaded = Store (record { 0 = c.addr }) n (low_bytes n x.c)
-act_by load_stores_byte f x c loaded = Atomic (record { 0 = c.addr }) B1 loaded 0xFF
-act_by swaps f x c loaded = Atomic (record { 0 = c.addr }) B4 loaded (low_bytes B4 x.c)
-act_by (compares_and_swaps n) f x c loaded = compared n f x c loaded
+unfoldable pub act_by : FormKind → Fetched → Operands → Computed → ℕ → Act
+act_by Fences f x c loaded = Fence f.instr.mask
+act_by (Loads n) f x c loaded = Load (record { 0 = c.addr }) n loaded
+act_by (Stores n) f x c loaded = Store (record { 0 = c.addr }) n (low_bytes n x.c)
+act_by LoadsAndStoresByte f x c loaded = Atomic (record { 0 = c.addr }) B1 loaded 0xFF
+act_by Swaps f x c loaded = Atomic (record { 0 = c.addr }) B4 loaded (low_bytes B4 x.c)
+act_by (ComparesAndSwaps n) f x c loaded = compared n f x c loaded
 act_by _ f x c loaded = spoken c.out
 
 abbrev pub act_in : ArchPhase → Fetched → Operands → Computed → ℕ → Act

@@ -1,6 +1,7 @@
 -- The state of a processor between two steps (SPARC V9, section 5), and how a processor starts.
 -- Registers hold numbers below 2^64, and window numbers go round at 8.
 use Rattle.std.specs.Prelude.{◌≡◌, ℕ, ◌+◌, ◌-◌, ◌*◌, ◌%◌, ◌^◌, ◌<◌, ◌≤◌, ◌==◌, Bool, true, false, nat_lt, if◌then◌else◌, replicate, slice_index, slice_set, ⊤}
+use Rattle.rsim_base.specs.Limits.{stacks_start, stack_bytes}
 use Rattle.elf64_load.specs.Image.{ImageView}
 use Rattle.sparc_meaning.specs.declared.arch.Arch.{Arch}
 use Rattle.sparc_meaning.specs.declared.arch.ArchPhase.{ArchPhase}
@@ -75,7 +76,7 @@ abbrev pub boot : ImageView → ℕ → ℕ → Arch
 boot image p n = record {
   globals = replicate 8 0;
   windowed = slice_set (slice_set (slice_set (replicate 128 0)
-      (place 0 8) p) (place 0 9) n) (place 0 14) (0x7F000000 + (p + 1) * 0x10000 - 2303);
+      (place 0 8) p) (place 0 9) n) (place 0 14) (stacks_start + (p + 1) * stack_bytes - 2303);
   cc = 0;
   y = 0;
   pc = image.entry;

@@ -1,12 +1,15 @@
 -- What a step gives, as a function of what it runs and of its operands alone (SPARC V9, appendix A). What it loads is
 -- no part of it.
-use Rattle.std.specs.Prelude.{ℕ, ◌+◌, ◌%◌, ◌==◌, Bool, false, not, ◌&&◌, if◌then◌else◌, Option, Some, None, Result, Ok, Err}
+use Rattle.std.specs.Prelude.{ℕ, ◌+◌, ◌%◌, ◌==◌, Bool, false, not, ◌&&◌, if◌then◌else◌, Some, None, Result, Ok, Err}
 use Rattle.rsim_base.specs.Bytes.{count_of}
 use Rattle.rsim_base.specs.declared.memory.Size.{Size}
 use Rattle.rsim_base.specs.declared.memory.Size.TheVariants.{B1, B4, B8}
 use Rattle.elf64_load.specs.Image.{ImageView, is_readable, is_writable}
 use Rattle.sparc_decode.specs.declared.instr.Src2.{Src2}
 use Rattle.sparc_decode.specs.declared.instr.Src2.TheVariants.{Reg, Imm}
+use Rattle.sparc_decode.specs.declared.kinds.FormKind.{FormKind}
+use Rattle.sparc_decode.specs.declared.kinds.FormKind.TheVariants.{Traps, BranchesOnCodes, BranchesOnRegister, Calls, Jumps, Returns, Moves, TrapsIfTaken, SetsHigh, ReadsPc, Fences, DoesNothing, Saves, Restores, Loads, Stores, LoadsAndStoresByte, Swaps, ComparesAndSwaps, Computes}
+use Rattle.sparc_decode.specs.Kinds.{kind}
 use Rattle.sparc_alu.specs.declared.arithmetic.AluOut.{AluOut}
 use Rattle.sparc_alu.specs.declared.arithmetic.DivisionByZero.{DivisionByZero}
 use Rattle.sparc_alu.specs.Accesses.{effective}
@@ -22,7 +25,6 @@ use Rattle.sparc_meaning.specs.declared.arch.End.TheVariants.{Running, Exit, Tra
 use Rattle.sparc_meaning.specs.declared.fetched.Computed.{Computed}
 use Rattle.sparc_meaning.specs.declared.fetched.Fetched.{Fetched}
 use Rattle.sparc_meaning.specs.declared.fetched.Operands.{Operands}
-use Rattle.sparc_meaning.specs.Forms.{Kind, kind, traps, branches_on_codes, branches_on_register, calls, jumps, returns, moves, traps_if_taken, sets_high, reads_pc, fences, does_nothing, saves, restores, loads, stores, load_stores_byte, swaps, compares_and_swaps, computes}
 use Rattle.sparc_meaning.specs.Stepped.{straight, by_slot_to, branched}
 use Rattle.sparc_meaning.specs.Windows.{slot_at}
 
@@ -115,27 +117,27 @@ calculated f x = written (alu.computed f.instr.op x.a (second f.instr.src2 x) x.
 
 -- ---- what each kind of form gives
 
-unfoldable pub computed_by : Kind → ImageView → Fetched → Operands → Computed
-computed_by traps image f x = traps_by f.instr.trap f
-computed_by branches_on_codes image f x = branch (f.instr.cond == 8) f x
-computed_by branches_on_register image f x = branch false f x
-computed_by calls image f x = links_to (effective f.pair.pc (twos_complement f.instr.disp)) f
-computed_by jumps image f x = jump (total f x) f
-computed_by returns image f x = jump (total f x) f
-computed_by moves image f x = move f x
-computed_by traps_if_taken image f x = served_if_taken f x
-computed_by sets_high image f x = gives (twos_complement f.instr.disp) f
-computed_by reads_pc image f x = gives f.pair.pc f
-computed_by fences image f x = plain f
-computed_by does_nothing image f x = plain f
-computed_by saves image f x = gives (total f x) f
-computed_by restores image f x = gives (total f x) f
-computed_by (loads n) image f x = load n (total f x) image f
-computed_by (stores n) image f x = store n (total f x) image f
-computed_by load_stores_byte image f x = exchange B1 (total f x) image f
-computed_by swaps image f x = exchange B4 (total f x) image f
-computed_by (compares_and_swaps n) image f x = exchange n x.a image f
-computed_by computes image f x = calculated f x
+unfoldable pub computed_by : FormKind → ImageView → Fetched → Operands → Computed
+computed_by Traps image f x = traps_by f.instr.trap f
+computed_by BranchesOnCodes image f x = branch (f.instr.cond == 8) f x
+computed_by BranchesOnRegister image f x = branch false f x
+computed_by Calls image f x = links_to (effective f.pair.pc (twos_complement f.instr.disp)) f
+computed_by Jumps image f x = jump (total f x) f
+computed_by Returns image f x = jump (total f x) f
+computed_by Moves image f x = move f x
+computed_by TrapsIfTaken image f x = served_if_taken f x
+computed_by SetsHigh image f x = gives (twos_complement f.instr.disp) f
+computed_by ReadsPc image f x = gives f.pair.pc f
+computed_by Fences image f x = plain f
+computed_by DoesNothing image f x = plain f
+computed_by Saves image f x = gives (total f x) f
+computed_by Restores image f x = gives (total f x) f
+computed_by (Loads n) image f x = load n (total f x) image f
+computed_by (Stores n) image f x = store n (total f x) image f
+computed_by LoadsAndStoresByte image f x = exchange B1 (total f x) image f
+computed_by Swaps image f x = exchange B4 (total f x) image f
+computed_by (ComparesAndSwaps n) image f x = exchange n x.a image f
+computed_by Computes image f x = calculated f x
 
 -- The pair stays during a spill or fill.
 abbrev pub computed_in : ArchPhase → ImageView → Fetched → Operands → Computed

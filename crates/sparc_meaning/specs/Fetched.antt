@@ -1,6 +1,6 @@
 -- What a step runs: an instruction, or a step of the spill or fill that it needs first; what that reads, what it
 -- writes, and what it does with the windows.
-use Rattle.std.specs.Prelude.{◌≡◌, ℕ, ◌+◌, ◌≤◌, ◌<◌, ◌==◌, Bool, true, false, not, ⊤, if◌then◌else◌, Option, Some, None}
+use Rattle.std.specs.Prelude.{◌≡◌, ℕ, ◌+◌, ◌≤◌, ◌<◌, ◌==◌, Bool, false, not, if◌then◌else◌, Option, Some, None}
 use Rattle.rsim_base.specs.declared.processor.Window.{Window}
 use Rattle.elf64_load.specs.Image.{ImageView}
 use Rattle.sparc_decode.specs.declared.instr.Instr.{Instr}

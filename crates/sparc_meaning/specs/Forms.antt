@@ -3,13 +3,13 @@
 use Rattle.std.specs.Prelude.{ℕ, ◌%◌, ◌==◌, Bool, false, ◌&&◌, if◌then◌else◌, Result, Ok, Err}
 use Rattle.rsim_base.specs.Bytes.{count_of, low_bytes}
 use Rattle.rsim_base.specs.declared.memory.Size.{Size}
-use Rattle.rsim_base.specs.declared.memory.Size.TheVariants.{B1, B2, B4, B8}
+use Rattle.rsim_base.specs.declared.memory.Size.TheVariants.{B1, B4}
 use Rattle.elf64_load.specs.Image.{ImageView, is_readable, is_writable}
 use Rattle.sparc_decode.specs.declared.instr.Instr.{Instr}
-use Rattle.sparc_decode.specs.declared.instr.Op.{Op}
-use Rattle.sparc_decode.specs.declared.instr.Op.TheVariants as op
 use Rattle.sparc_decode.specs.declared.instr.Src2.{Src2}
 use Rattle.sparc_decode.specs.declared.instr.Src2.TheVariants.{Reg, Imm}
+use Rattle.sparc_decode.specs.declared.kinds.FormKind.{FormKind}
+use Rattle.sparc_decode.specs.declared.kinds.FormKind.TheVariants.{Traps, BranchesOnCodes, BranchesOnRegister, Calls, Jumps, Returns, Moves, TrapsIfTaken, SetsHigh, ReadsPc, Fences, DoesNothing, Saves, Restores, Loads, Stores, LoadsAndStoresByte, Swaps, ComparesAndSwaps, Computes}
 use Rattle.sparc_alu.specs.declared.arithmetic.AluOut.{AluOut}
 use Rattle.sparc_alu.specs.declared.arithmetic.DivisionByZero.{DivisionByZero}
 use Rattle.sparc_alu.specs.Accesses.{effective, extended, swapped}
@@ -41,68 +41,6 @@ total i s = effective (first i s) (second i s)
 -- the instruction's condition is true
 abbrev pub is_taken : Instr → Arch → Bool
 is_taken i s = taken i s.cc (first i s)
-
--- ---- forms
-
--- kinds of forms; those that access memory say of which size
-pub data Kind : Type 0 where
-  traps : Kind
-  branches_on_codes : Kind
-  branches_on_register : Kind
-  calls : Kind
-  jumps : Kind
-  returns : Kind
-  moves : Kind
-  traps_if_taken : Kind
-  sets_high : Kind
-  reads_pc : Kind
-  fences : Kind
-  does_nothing : Kind
-  saves : Kind
-  restores : Kind
-  loads : Size → Kind
-  stores : Size → Kind
-  load_stores_byte : Kind
-  swaps : Kind
-  compares_and_swaps : Size → Kind
-  computes : Kind
-
-unfoldable pub kind : Op → Kind
-kind op.Trap = traps
-kind op.Bicc = branches_on_codes
-kind op.BPcc = branches_on_codes
-kind op.BPr = branches_on_register
-kind op.Call = calls
-kind op.Jmpl = jumps
-kind op.Return = returns
-kind op.Movcc = moves
-kind op.Movr = moves
-kind op.Tcc = traps_if_taken
-kind op.Sethi = sets_high
-kind op.RdPc = reads_pc
-kind op.Membar = fences
-kind op.Stbar = fences
-kind op.Flush = does_nothing
-kind op.Flushw = does_nothing
-kind op.Prefetch = does_nothing
-kind op.Save = saves
-kind op.Restore = restores
-kind op.Ldub = loads B1
-kind op.Ldsb = loads B1
-kind op.Lduh = loads B2
-kind op.Ldsh = loads B2
-kind op.Lduw = loads B4
-kind op.Ldsw = loads B4
-kind op.Ldx = loads B8
-kind op.Stb = stores B1
-kind op.Sth = stores B2
-kind op.Stw = stores B4
-kind op.Stx = stores B8
-kind op.Ldstub = load_stores_byte
-kind op.Swap = swaps
-kind op.Casa = compares_and_swaps B4
-kind op.Casxa = compares_and_swaps B8
-kind _ = computes
 
 -- ---- what each does
 
@@ -161,33 +99,33 @@ exchange n addr stored image i s value =
 abbrev pub kept_or_swapped : Size → Instr → Arch → ℕ → ℕ
 kept_or_swapped n i s value = swapped value (second i s) (low_bytes n (register s i.rd)) n
 
-unfoldable pub executed : Kind → ImageView → Instr → Arch → ℕ → Stepped
-executed traps image i s value = trapped i.trap s
-executed branches_on_codes image i s value = branch (i.cond == 8) i s
-executed branches_on_register image i s value = branch false i s
-executed calls image i s value = call i s
+unfoldable pub executed : FormKind → ImageView → Instr → Arch → ℕ → Stepped
+executed Traps image i s value = trapped i.trap s
+executed BranchesOnCodes image i s value = branch (i.cond == 8) i s
+executed BranchesOnRegister image i s value = branch false i s
+executed Calls image i s value = call i s
 -- JMPL (A.24): the register gets its own address
-executed jumps image i s value = jump (total i s) (with_register i.rd s.pc s) s
+executed Jumps image i s value = jump (total i s) (with_register i.rd s.pc s) s
 -- RETURN (A.45): the target is of the old window
-executed returns image i s value = jump (total i s) (restored s) s
-executed moves image i s value = move_if_taken i s
-executed traps_if_taken image i s value = trap_if_taken i s
+executed Returns image i s value = jump (total i s) (restored s) s
+executed Moves image i s value = move_if_taken i s
+executed TrapsIfTaken image i s value = trap_if_taken i s
 -- SETHI (A.48)
-executed sets_high image i s value = goes_on Nothing (with_register i.rd (twos_complement i.disp) s)
+executed SetsHigh image i s value = goes_on Nothing (with_register i.rd (twos_complement i.disp) s)
 -- RDPC (A.44)
-executed reads_pc image i s value = goes_on Nothing (with_register i.rd s.pc s)
+executed ReadsPc image i s value = goes_on Nothing (with_register i.rd s.pc s)
 -- MEMBAR and STBAR (A.32, A.51)
-executed fences image i s value = goes_on (Fence i.mask) s
+executed Fences image i s value = goes_on (Fence i.mask) s
 -- FLUSH, FLUSHW with nothing left to spill, PREFETCH (A.20, A.21, A.42)
-executed does_nothing image i s value = goes_on Nothing s
+executed DoesNothing image i s value = goes_on Nothing s
 -- SAVE and RESTORE (A.46): the sum is of the old window, and is written in the new one
-executed saves image i s value = goes_on Nothing (with_register i.rd (total i s) (saved s))
-executed restores image i s value = goes_on Nothing (with_register i.rd (total i s) (restored s))
-executed (loads n) image i s value = load n image i s value
-executed (stores n) image i s value = store n image i s
+executed Saves image i s value = goes_on Nothing (with_register i.rd (total i s) (saved s))
+executed Restores image i s value = goes_on Nothing (with_register i.rd (total i s) (restored s))
+executed (Loads n) image i s value = load n image i s value
+executed (Stores n) image i s value = store n image i s
 -- LDSTUB (A.29) stores ones, SWAP (A.57) the low word of the register
-executed load_stores_byte image i s value = exchange B1 (total i s) 0xFF image i s value
-executed swaps image i s value = exchange B4 (total i s) (low_bytes B4 (register s i.rd)) image i s value
+executed LoadsAndStoresByte image i s value = exchange B1 (total i s) 0xFF image i s value
+executed Swaps image i s value = exchange B4 (total i s) (low_bytes B4 (register s i.rd)) image i s value
 -- CASA and CASXA (A.9) have their address in one register
-executed (compares_and_swaps n) image i s value = exchange n (first i s) (kept_or_swapped n i s value) image i s value
-executed computes image i s value = written (computed i.op (first i s) (second i s) s.cc s.y) i s
+executed (ComparesAndSwaps n) image i s value = exchange n (first i s) (kept_or_swapped n i s value) image i s value
+executed Computes image i s value = written (computed i.op (first i s) (second i s) s.cc s.y) i s

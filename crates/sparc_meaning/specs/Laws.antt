@@ -1,9 +1,11 @@
 -- Laws of the step: it is told by its operands, and what is known of it before they are.
-use Rattle.std.specs.Prelude.{◌≡◌, ℕ, Bool, true, false, Option, Some, None}
-use Rattle.rsim_base.specs.declared.memory.Size.{Size}
+use Rattle.std.specs.Prelude.{◌≡◌, ℕ, Bool, true, false}
 use Rattle.elf64_load.specs.Image.{ImageView}
 use Rattle.sparc_decode.specs.declared.instr.Op.{Op}
 use Rattle.sparc_decode.specs.Effects.{window_effect_of_form}
+use Rattle.sparc_decode.specs.declared.kinds.FormKind.{FormKind}
+use Rattle.sparc_decode.specs.declared.kinds.FormKind.TheVariants.{Loads, Stores, LoadsAndStoresByte, Swaps, ComparesAndSwaps}
+use Rattle.sparc_decode.specs.Kinds.{kind}
 use Rattle.sparc_meaning.specs.declared.acts.Act.TheVariants.{End as Ended}
 use Rattle.sparc_meaning.specs.declared.acts.Want.TheVariants as want
 use Rattle.sparc_meaning.specs.declared.arch.Arch.{Arch}
@@ -16,7 +18,6 @@ use Rattle.sparc_meaning.specs.Applied.{applied}
 use Rattle.sparc_meaning.specs.Arch.{is_running}
 use Rattle.sparc_meaning.specs.Computed.{computed}
 use Rattle.sparc_meaning.specs.Fetched.{next_of, operands, spills_by, fills_by}
-use Rattle.sparc_meaning.specs.Forms.{Kind, kind, loads, stores, load_stores_byte, swaps, compares_and_swaps}
 use Rattle.sparc_meaning.specs.Step.{step}
 use Rattle.sparc_meaning.specs.Windows.{spills_first, fills_first, windows_of}
 
@@ -36,25 +37,25 @@ abbrev pub OthersIgnoreTheValue : Type 0
 OthersIgnoreTheValue = (image : ImageView) (s : Arch) (v w : ℕ) → reads (step image s v).act ≡ want.None → step image s w ≡ step image s v
 
 -- a step accesses memory: those of spills and fills do
-unfoldable pub accesses_by : Kind → Bool
-accesses_by (loads n) = true
-accesses_by (stores n) = true
-accesses_by load_stores_byte = true
-accesses_by swaps = true
-accesses_by (compares_and_swaps n) = true
+unfoldable pub accesses_by : FormKind → Bool
+accesses_by (Loads n) = true
+accesses_by (Stores n) = true
+accesses_by LoadsAndStoresByte = true
+accesses_by Swaps = true
+accesses_by (ComparesAndSwaps n) = true
 accesses_by _ = false
 
-abbrev pub accesses : ArchPhase → Kind → Bool
+abbrev pub accesses : ArchPhase → FormKind → Bool
 accesses Run k = accesses_by k
 accesses (Spill n) k = true
 accesses (Fill n) k = true
 
 -- its address is a sum of two operands: not that of CASA and CASXA, nor that of a step of a spill or fill
-unfoldable pub adds_by : Kind → Bool
-adds_by (compares_and_swaps n) = false
+unfoldable pub adds_by : FormKind → Bool
+adds_by (ComparesAndSwaps n) = false
 adds_by _ = true
 
-abbrev pub adds : ArchPhase → Kind → Bool
+abbrev pub adds : ArchPhase → FormKind → Bool
 adds Run k = adds_by k
 adds (Spill n) k = false
 adds (Fill n) k = false

@@ -1,12 +1,14 @@
+pub mod Accesses
 pub mod Acts
 pub mod Applied
 pub mod Arch
 pub mod Computed
 pub mod Fetched
 pub mod Forms
-pub mod Kept
+pub mod KeptWindows
 pub mod Laws
 pub mod Run
+pub mod Runs
 pub mod Step
 pub mod StepIgnores
 pub mod StepReads

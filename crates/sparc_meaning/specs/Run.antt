@@ -1,15 +1,16 @@
 -- A processor's run: so many steps from its start on given loaded values, the accesses that it made, and the
 -- bytes that it put.
-use Rattle.std.specs.Prelude.{ℕ, zero, suc, Bool, true, false, not, ◌&&◌, map, if◌then◌else◌, List, [], ◌∷◌, ◌++◌, length, Option, Some, None, is_none, option_and_then, unwrap_or, slice_get, decimal}
+use Rattle.std.specs.Prelude.{ℕ, zero, suc, Bool, false, not, ◌&&◌, map, if◌then◌else◌, List, [], ◌∷◌, ◌++◌, length, Option, Some, None, is_none, option_and_then, option_to_list, unwrap_or, slice_get, decimal}
+use Rattle.rsim_base.specs.Accesses.{loads}
 use Rattle.rsim_base.specs.Made.{Fences, Made, no_fences, fenced}
 use Rattle.rsim_base.specs.declared.memory.Access.{Access}
-use Rattle.rsim_base.specs.declared.memory.Kind.TheVariants as kind
 use Rattle.elf64_load.specs.Image.{ImageView}
 use Rattle.sparc_meaning.specs.declared.acts.Act.{Act}
-use Rattle.sparc_meaning.specs.declared.acts.Act.TheVariants.{Nothing, Load, Store, Atomic, Fence, Out, End as Ended}
+use Rattle.sparc_meaning.specs.declared.acts.Act.TheVariants.{Fence, Out}
 use Rattle.sparc_meaning.specs.declared.acts.Spoken.{Spoken}
 use Rattle.sparc_meaning.specs.declared.acts.Spoken.TheVariants.{Byte, Number}
 use Rattle.sparc_meaning.specs.declared.arch.Arch.{Arch}
+use Rattle.sparc_meaning.specs.Accesses.{access_of, by_access}
 use Rattle.sparc_meaning.specs.Arch.{boot, is_running}
 use Rattle.sparc_meaning.specs.Step.{step}
 use Rattle.sparc_meaning.specs.Stepped.{Stepped}
@@ -28,44 +29,20 @@ spoken_text (Number number) = decimal number ++ 10 ∷ []
 
 abbrev pub output_of : Act → List ℕ
 output_of (Out spoken) = spoken_text spoken
-output_of Nothing = []
-output_of (Load addr size loaded) = []
-output_of (Store addr size stored) = []
-output_of (Atomic addr size loaded stored) = []
-output_of (Fence mask) = []
-output_of Ended = []
+output_of act = []
 
 -- whether a step uses the value that it was given
 abbrev pub uses_value : Act → Bool
-uses_value (Load addr size loaded) = true
-uses_value (Atomic addr size loaded stored) = true
-uses_value Nothing = false
-uses_value (Store addr size stored) = false
-uses_value (Fence mask) = false
-uses_value (Out spoken) = false
-uses_value Ended = false
+uses_value act = by_access false (λ a. loads a.kind) act
 
--- the access of processor p with this number that a step makes; the value that its kind lacks is 0
+-- the access of processor p with this number that a step makes, in a list
 abbrev pub accesses_of : ℕ → ℕ → Act → List Access
-accesses_of p i (Load addr size loaded) =
-    record { node = record { 0 = p }; index = i; kind = kind.Load; addr = addr; size = size; loaded = loaded; stored = 0 } ∷ []
-accesses_of p i (Store addr size stored) =
-    record { node = record { 0 = p }; index = i; kind = kind.Store; addr = addr; size = size; loaded = 0; stored = stored } ∷ []
-accesses_of p i (Atomic addr size loaded stored) =
-    record { node = record { 0 = p }; index = i; kind = kind.Atomic; addr = addr; size = size; loaded = loaded; stored = stored } ∷ []
-accesses_of p i Nothing = []
-accesses_of p i (Fence mask) = []
-accesses_of p i (Out spoken) = []
-accesses_of p i Ended = []
+accesses_of p i act = option_to_list (access_of p i act)
 
+-- how many fences there are after a step
 abbrev pub fences_after : Act → Fences → Fences
 fences_after (Fence mask) fences = fenced mask fences
-fences_after Nothing fences = fences
-fences_after (Load addr size loaded) fences = fences
-fences_after (Store addr size stored) fences = fences
-fences_after (Atomic addr size loaded stored) fences = fences
-fences_after (Out spoken) fences = fences
-fences_after Ended fences = fences
+fences_after act fences = fences
 
 abbrev pub made_after : Fences → Access → Made
 made_after fences access = record { access = access; fences = fences }

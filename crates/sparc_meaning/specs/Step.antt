@@ -4,10 +4,11 @@ use Rattle.elf64_load.specs.Image.{ImageView, fetched}
 use Rattle.sparc_decode.specs.declared.instr.Instr.{Instr}
 use Rattle.sparc_decode.specs.Forms.{ill}
 use Rattle.sparc_decode.specs.Instr.{instr}
+use Rattle.sparc_decode.specs.Kinds.{kind}
 use Rattle.sparc_meaning.specs.declared.arch.Arch.{Arch}
 use Rattle.sparc_meaning.specs.declared.arch.ArchPhase.{ArchPhase}
 use Rattle.sparc_meaning.specs.declared.arch.ArchPhase.TheVariants.{Run, Spill, Fill}
-use Rattle.sparc_meaning.specs.Forms.{kind, executed}
+use Rattle.sparc_meaning.specs.Forms.{executed}
 use Rattle.sparc_meaning.specs.Stepped.{Stepped}
 use Rattle.sparc_meaning.specs.Windows.{spills_first, fills_first, spill, fill}
 

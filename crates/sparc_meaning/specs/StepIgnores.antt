@@ -1,10 +1,13 @@
 -- A step that reads nothing from memory doesn't use the value that it is given.
-use Rattle.std.proofs.Common.{◌≡◌, ◌%◌, ◌==◌, ◌&&◌, ℕ, Bool, true, false, not, if◌then◌else◌, Option, Some, None, refl}
+use Rattle.std.proofs.Common.{◌≡◌, ◌%◌, ◌==◌, ◌&&◌, ℕ, Bool, true, false, not, if◌then◌else◌, refl}
 use Rattle.rsim_base.specs.Bytes.{count_of, low_bytes}
 use Rattle.rsim_base.specs.declared.memory.Size.{Size}
 use Rattle.rsim_base.specs.declared.memory.Size.TheVariants.{B1, B4, B8}
 use Rattle.elf64_load.specs.Image.{ImageView, is_readable, is_writable}
 use Rattle.sparc_decode.specs.declared.instr.Instr.{Instr}
+use Rattle.sparc_decode.specs.declared.kinds.FormKind.{FormKind}
+use Rattle.sparc_decode.specs.declared.kinds.FormKind.TheVariants as kinds
+use Rattle.sparc_decode.specs.Kinds.{kind}
 use Rattle.sparc_alu.specs.Accesses.{extended}
 use Rattle.sparc_meaning.specs.declared.acts.Act.TheVariants.{Load, Atomic}
 use Rattle.sparc_meaning.specs.declared.arch.Arch.{Arch}
@@ -44,12 +47,12 @@ exchange_same n addr a b image i s v w =
     let done = λ (stored value : ℕ). goes_on (Atomic (record { 0 = addr }) n value stored) (with_register i.rd (extended i.op value) s) in
     accessed_same n addr (is_readable image addr (count_of n) && is_writable image addr (count_of n)) (done a v) (done b w) s (record { is = λ quiet. absurd cc })
 
-executed_same : (k : form.Kind) (image : ImageView) (i : Instr) (s : Arch) (v w : ℕ) → Same (executed k image i s v) (executed k image i s w)
+executed_same : (k : FormKind) (image : ImageView) (i : Instr) (s : Arch) (v w : ℕ) → Same (executed k image i s v) (executed k image i s w)
 unfolding executed
-executed_same (form.loads n) image i s v w = load_same n image i s v w
-executed_same form.load_stores_byte image i s v w = exchange_same B1 (form.total i s) 0xFF 0xFF image i s v w
-executed_same form.swaps image i s v w = let stored = low_bytes B4 (register s i.rd) in exchange_same B4 (form.total i s) stored stored image i s v w
-executed_same (form.compares_and_swaps n) image i s v w = exchange_same n (form.first i s) (form.kept_or_swapped n i s v) (form.kept_or_swapped n i s w) image i s v w
+executed_same (kinds.Loads n) image i s v w = load_same n image i s v w
+executed_same kinds.LoadsAndStoresByte image i s v w = exchange_same B1 (form.total i s) 0xFF 0xFF image i s v w
+executed_same kinds.Swaps image i s v w = let stored = low_bytes B4 (register s i.rd) in exchange_same B4 (form.total i s) stored stored image i s v w
+executed_same (kinds.ComparesAndSwaps n) image i s v w = exchange_same n (form.first i s) (form.kept_or_swapped n i s v) (form.kept_or_swapped n i s w) image i s v w
 executed_same _ image i s v w = same _
 
 fill_same : (k : ℕ) (image : ImageView) (s : Arch) (v w : ℕ) → Same (fill k image s v) (fill k image s w)
@@ -61,7 +64,7 @@ fill_same k image s v w =
 of_instr_same : (i : Instr) (image : ImageView) (s : Arch) (v w : ℕ) → Same (of_instr i image s v) (of_instr i image s w)
 of_instr_same i image s v w =
     either (spills_first i.op s) (spill 0 image s) _ (spill 0 image s) _ (same _)
-    (either (fills_first i.op s) (fill 0 image s v) _ (fill 0 image s w) _ (fill_same 0 image s v w) (executed_same (form.kind i.op) image i s v w))
+    (either (fills_first i.op s) (fill 0 image s v) _ (fill 0 image s w) _ (fill_same 0 image s v w) (executed_same (kind i.op) image i s v w))
 
 in_phase_same : (phase : ArchPhase) (image : ImageView) (s : Arch) (v w : ℕ) → Same (in_phase phase image s v) (in_phase phase image s w)
 in_phase_same Run image s v w = of_instr_same (instr_at image s.pc) image s v w

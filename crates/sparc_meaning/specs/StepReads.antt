@@ -1,6 +1,6 @@
 -- What each step does: it reads what it wants, whatever the value is that it finds; its access is aligned; and where
 -- it reads nothing it doesn't use the value.
-use Rattle.std.proofs.Common.{◌≡◌, ◌*◌, ◌%◌, ◌==◌, ◌&&◌, ℕ, Bool, true, false, not, if◌then◌else◌, Option, Some, None, Result, Ok, Err, refl, subst, arith}
+use Rattle.std.proofs.Common.{◌≡◌, ◌*◌, ◌%◌, ◌==◌, ◌&&◌, ℕ, Bool, true, false, not, if◌then◌else◌, Result, Ok, Err, refl, subst, arith}
 use Rattle.std.proofs.Math.Nat.{mod-lt}
 use Rattle.std.proofs.lemmas.Bool.{eqb-true, not-false}
 use Rattle.std.proofs.lemmas.Nat.{pow_pos}
@@ -9,6 +9,9 @@ use Rattle.rsim_base.specs.declared.memory.Size.{Size}
 use Rattle.rsim_base.specs.declared.memory.Size.TheVariants.{B1, B4, B8}
 use Rattle.elf64_load.specs.Image.{ImageView, is_readable, is_writable}
 use Rattle.sparc_decode.specs.declared.instr.Instr.{Instr}
+use Rattle.sparc_decode.specs.declared.kinds.FormKind.{FormKind}
+use Rattle.sparc_decode.specs.declared.kinds.FormKind.TheVariants as kinds
+use Rattle.sparc_decode.specs.Kinds.{kind}
 use Rattle.sparc_alu.specs.declared.arithmetic.AluOut.{AluOut}
 use Rattle.sparc_alu.specs.declared.arithmetic.DivisionByZero.{DivisionByZero}
 use Rattle.sparc_alu.specs.Accesses.{extended}
@@ -102,29 +105,29 @@ exchange_does n addr stored image i s value sized =
     (goes_on (Atomic (record { 0 = addr }) n value stored) (with_register i.rd (extended i.op value) s)) s (want.Atomic (record { 0 = addr }) n)
     (λ is. record { reads_it = refl; aligned = is; found = refl; sized = sized })
 
-executed_does : (k : form.Kind) (image : ImageView) (i : Instr) (s : Arch) (value : ℕ) → Does value (executed k image i s value) (by_kind k image i s)
+executed_does : (k : FormKind) (image : ImageView) (i : Instr) (s : Arch) (value : ℕ) → Does value (executed k image i s value) (by_kind k image i s)
 unfolding executed by_kind
-executed_does (form.loads n) image i s value = load_does n image i s value
-executed_does (form.stores n) image i s value = store_does n image i s value
-executed_does form.load_stores_byte image i s value = exchange_does B1 (form.total i s) 0xFF image i s value (λ fits. omega arith)
-executed_does form.swaps image i s value = exchange_does B4 (form.total i s) (low_bytes B4 (register s i.rd)) image i s value (λ fits. low_bytes-lt B4 (register s i.rd))
-executed_does (form.compares_and_swaps n) image i s value = exchange_does n (form.first i s) (form.kept_or_swapped n i s value) image i s value
+executed_does (kinds.Loads n) image i s value = load_does n image i s value
+executed_does (kinds.Stores n) image i s value = store_does n image i s value
+executed_does kinds.LoadsAndStoresByte image i s value = exchange_does B1 (form.total i s) 0xFF image i s value (λ fits. omega arith)
+executed_does kinds.Swaps image i s value = exchange_does B4 (form.total i s) (low_bytes B4 (register s i.rd)) image i s value (λ fits. low_bytes-lt B4 (register s i.rd))
+executed_does (kinds.ComparesAndSwaps n) image i s value = exchange_does n (form.first i s) (form.kept_or_swapped n i s value) image i s value
     (λ fits. swapped-lt (low_bytes n value == low_bytes n (form.second i s)) n value (low_bytes n (register s i.rd)) (low_bytes-lt n (register s i.rd)) fits)
-executed_does form.jumps image i s value = either value (form.total i s % 4 == 0) _ _ want.None (record { reads_it = refl; aligned = tt; found = tt; sized = tt }) (record { reads_it = refl; aligned = tt; found = tt; sized = tt })
-executed_does form.returns image i s value = either value (form.total i s % 4 == 0) _ _ want.None (record { reads_it = refl; aligned = tt; found = tt; sized = tt }) (record { reads_it = refl; aligned = tt; found = tt; sized = tt })
-executed_does form.traps_if_taken image i s value = either value (form.is_taken i s) _ _ want.None (service_does value (form.total i s % 128) s) (record { reads_it = refl; aligned = tt; found = tt; sized = tt })
-executed_does form.computes image i s value = written_does value _ i s
-executed_does form.traps image i s value = record { reads_it = refl; aligned = tt; found = tt; sized = tt }
-executed_does form.branches_on_codes image i s value = record { reads_it = refl; aligned = tt; found = tt; sized = tt }
-executed_does form.branches_on_register image i s value = record { reads_it = refl; aligned = tt; found = tt; sized = tt }
-executed_does form.calls image i s value = record { reads_it = refl; aligned = tt; found = tt; sized = tt }
-executed_does form.moves image i s value = record { reads_it = refl; aligned = tt; found = tt; sized = tt }
-executed_does form.sets_high image i s value = record { reads_it = refl; aligned = tt; found = tt; sized = tt }
-executed_does form.reads_pc image i s value = record { reads_it = refl; aligned = tt; found = tt; sized = tt }
-executed_does form.fences image i s value = record { reads_it = refl; aligned = tt; found = tt; sized = tt }
-executed_does form.does_nothing image i s value = record { reads_it = refl; aligned = tt; found = tt; sized = tt }
-executed_does form.saves image i s value = record { reads_it = refl; aligned = tt; found = tt; sized = tt }
-executed_does form.restores image i s value = record { reads_it = refl; aligned = tt; found = tt; sized = tt }
+executed_does kinds.Jumps image i s value = either value (form.total i s % 4 == 0) _ _ want.None (record { reads_it = refl; aligned = tt; found = tt; sized = tt }) (record { reads_it = refl; aligned = tt; found = tt; sized = tt })
+executed_does kinds.Returns image i s value = either value (form.total i s % 4 == 0) _ _ want.None (record { reads_it = refl; aligned = tt; found = tt; sized = tt }) (record { reads_it = refl; aligned = tt; found = tt; sized = tt })
+executed_does kinds.TrapsIfTaken image i s value = either value (form.is_taken i s) _ _ want.None (service_does value (form.total i s % 128) s) (record { reads_it = refl; aligned = tt; found = tt; sized = tt })
+executed_does kinds.Computes image i s value = written_does value _ i s
+executed_does kinds.Traps image i s value = record { reads_it = refl; aligned = tt; found = tt; sized = tt }
+executed_does kinds.BranchesOnCodes image i s value = record { reads_it = refl; aligned = tt; found = tt; sized = tt }
+executed_does kinds.BranchesOnRegister image i s value = record { reads_it = refl; aligned = tt; found = tt; sized = tt }
+executed_does kinds.Calls image i s value = record { reads_it = refl; aligned = tt; found = tt; sized = tt }
+executed_does kinds.Moves image i s value = record { reads_it = refl; aligned = tt; found = tt; sized = tt }
+executed_does kinds.SetsHigh image i s value = record { reads_it = refl; aligned = tt; found = tt; sized = tt }
+executed_does kinds.ReadsPc image i s value = record { reads_it = refl; aligned = tt; found = tt; sized = tt }
+executed_does kinds.Fences image i s value = record { reads_it = refl; aligned = tt; found = tt; sized = tt }
+executed_does kinds.DoesNothing image i s value = record { reads_it = refl; aligned = tt; found = tt; sized = tt }
+executed_does kinds.Saves image i s value = record { reads_it = refl; aligned = tt; found = tt; sized = tt }
+executed_does kinds.Restores image i s value = record { reads_it = refl; aligned = tt; found = tt; sized = tt }
 
 fill_does : (k : ℕ) (image : ImageView) (s : Arch) (value : ℕ) → Does value (fill k image s value) (by_fill k image s)
 fill_does k image s value =
@@ -143,7 +146,7 @@ spill_does k image s value =
 of_instr_does : (i : Instr) (image : ImageView) (s : Arch) (value : ℕ) → Does value (of_instr i image s value) (by_instr i image s)
 of_instr_does i image s value =
     chosen value (spills_first i.op s) (spill 0 image s) _ want.None _ (λ must. spill_does 0 image s value)
-    (λ no. chosen value (fills_first i.op s) (fill 0 image s value) _ (by_fill 0 image s) _ (λ must. fill_does 0 image s value) (λ no. executed_does (form.kind i.op) image i s value))
+    (λ no. chosen value (fills_first i.op s) (fill 0 image s value) _ (by_fill 0 image s) _ (λ must. fill_does 0 image s value) (λ no. executed_does (kind i.op) image i s value))
 
 in_phase_does : (phase : ArchPhase) (image : ImageView) (s : Arch) (value : ℕ) → Does value (in_phase phase image s value) (by_phase phase image s)
 in_phase_does Run image s value = of_instr_does (instr_at image s.pc) image s value

@@ -5,6 +5,9 @@ use Rattle.rsim_base.specs.declared.memory.Size.{Size}
 use Rattle.rsim_base.specs.declared.memory.Size.TheVariants.{B1, B4, B8}
 use Rattle.elf64_load.specs.Image.{ImageView, is_readable, is_writable}
 use Rattle.sparc_decode.specs.declared.instr.Instr.{Instr}
+use Rattle.sparc_decode.specs.declared.kinds.FormKind.{FormKind}
+use Rattle.sparc_decode.specs.declared.kinds.FormKind.TheVariants as kinds
+use Rattle.sparc_decode.specs.Kinds.{kind}
 use Rattle.sparc_meaning.specs.declared.acts.Want.{Want}
 use Rattle.sparc_meaning.specs.declared.acts.Want.TheVariants as want
 use Rattle.sparc_meaning.specs.declared.arch.Arch.{Arch}
@@ -26,11 +29,11 @@ abbrev pub atomic_at : Size → ℕ → ImageView → Want
 atomic_at n addr image =
     where_allowed n addr (is_readable image addr (count_of n) && is_writable image addr (count_of n)) (want.Atomic (record { 0 = addr }) n)
 
-unfoldable pub by_kind : form.Kind → ImageView → Instr → Arch → Want
-by_kind (form.loads n) image i s = load_at n (form.total i s) image
-by_kind form.load_stores_byte image i s = atomic_at B1 (form.total i s) image
-by_kind form.swaps image i s = atomic_at B4 (form.total i s) image
-by_kind (form.compares_and_swaps n) image i s = atomic_at n (form.first i s) image
+unfoldable pub by_kind : FormKind → ImageView → Instr → Arch → Want
+by_kind (kinds.Loads n) image i s = load_at n (form.total i s) image
+by_kind kinds.LoadsAndStoresByte image i s = atomic_at B1 (form.total i s) image
+by_kind kinds.Swaps image i s = atomic_at B4 (form.total i s) image
+by_kind (kinds.ComparesAndSwaps n) image i s = atomic_at n (form.first i s) image
 by_kind _ image i s = want.None
 
 abbrev pub by_fill : ℕ → ImageView → Arch → Want
@@ -40,7 +43,7 @@ abbrev pub by_instr : Instr → ImageView → Arch → Want
 by_instr i image s =
     if spills_first i.op s then want.None
     else if fills_first i.op s then by_fill 0 image s
-    else by_kind (form.kind i.op) image i s
+    else by_kind (kind i.op) image i s
 
 abbrev pub by_phase : ArchPhase → ImageView → Arch → Want
 by_phase Run image s = by_instr (instr_at image s.pc) image s

@@ -1,6 +1,8 @@
 //! What a step does beside changing the state.
 
-use rsim_base::{Addr, Size};
+ghost use Rattle.std.specs.Prelude.{◌≡◌, IfSome};
+
+use rsim_base::{Access, Addr, Kind, Node, Size};
 
 /// What a service puts into the output.
 #[derive(Clone, Copy, Debug, PartialEq, Eq)]
@@ -38,4 +40,31 @@ pub enum Want {
     Atomic(Addr, Size),
     /// There is no step: the processor has ended.
     Ended,
+}
+
+impl Act {
+    ghost use Rattle.sparc_meaning.specs.Accesses.{HasNumbers, access_of};
+
+    /// The access that the step makes, if it makes one: that of processor `p` with this number. The value that its kind
+    /// lacks is 0.
+    pub fn access(self, p: Node, index: u32) -> Option<Access>
+        ensures value { result ≡ access_of p.0 index self }
+        ensures numbers { IfSome result HasNumbers }
+    {
+        let (kind, addr, size, loaded, stored) = match self {
+            Act::Load(addr, size, loaded) => (Kind::Load, addr, size, loaded, 0),
+            Act::Store(addr, size, stored) => (Kind::Store, addr, size, 0, stored),
+            Act::Atomic(addr, size, loaded, stored) => (Kind::Atomic, addr, size, loaded, stored),
+            Act::Nothing | Act::Fence(_) | Act::Out(_) | Act::End => return None,
+        };
+        Some(Access {
+            node: p,
+            kind,
+            size,
+            index,
+            addr,
+            loaded,
+            stored,
+        })
+    }
 }

@@ -2,11 +2,11 @@
 
 ghost use Rattle.std.specs.Prelude.{◌≡◌, ◌<◌, ◌≤◌, IfSome, IsTrue};
 ghost use Rattle.sparc_decode.specs.Effects.{window_effect_of};
+ghost use Rattle.sparc_decode.specs.Kinds.{kind as kind_of};
 ghost use Rattle.sparc_meaning.specs.Applied as spec;
 ghost use Rattle.sparc_meaning.specs.Arch.{IsSound};
 ghost use Rattle.sparc_meaning.specs.Fetched as part;
 ghost use Rattle.sparc_meaning.specs.Fetched.{IsFetched};
-ghost use Rattle.sparc_meaning.specs.Forms.{kind};
 
 use crate::acts::{Act, Spoken};
 use crate::arch::{Arch, ArchPhase, L0, O6, below};
@@ -16,7 +16,9 @@ use crate::windows::{oldest, one_less_kept, one_more_kept, window_above, window_
 use elf64_load::Image;
 use rsim_base::{Addr, Size, Window};
 use sparc_alu::{cas_result, load_extend};
-use sparc_decode::{Dest, Op, Sources, WindowEffect, dest, sources, window_effect};
+use sparc_decode::{
+    Dest, FormKind, Instr, Sources, WindowEffect, dest, kind, sources, window_effect,
+};
 
 // The last step of a spill or fill.
 const LAST: u8 = 15;
@@ -46,12 +48,12 @@ fn spoken(out: Option<Spoken>) -> Act
 
 impl Arch {
     // The part of an instruction that the processor runs next.
-    fn part_of(&self, op: Op) -> ArchPhase
-        ensures { result ≡ part.part_of self.now.phase op self.now }
+    fn part_of(&self, i: &Instr) -> ArchPhase
+        ensures { result ≡ part.part_of self.now.phase i.now.op self.now }
     {
         match self.phase {
-            ArchPhase::Run if self.spills_first(op) => ArchPhase::Spill(0),
-            ArchPhase::Run if self.fills_first(op) => ArchPhase::Fill(0),
+            ArchPhase::Run if self.spills_first(i) => ArchPhase::Spill(0),
+            ArchPhase::Run if self.fills_first(i) => ArchPhase::Fill(0),
             phase => phase,
         }
     }
@@ -118,7 +120,7 @@ impl Fetched {
         Fetched {
             pair: arch.pair(),
             window: arch.window(),
-            part: arch.part_of(instr.op),
+            part: arch.part_of(&instr),
             instr,
         }
     }
@@ -184,8 +186,8 @@ impl Fetched {
         }
     }
 
-    // The windows after it.
-    fn windows_after(&self) -> Window
+    /// The windows after it.
+    pub fn windows_after(&self) -> Window
         requires fetched { IsFetched self.now }
         ensures value { result ≡ part.windows_by self.now.part self.now.instr self.now.window }
         ensures window { result.cwp < 8 }
@@ -248,15 +250,13 @@ impl Fetched {
         }
     }
 
-    #[tactic(auto, unfolding(crate::specs::Forms::kind, crate::specs::Applied::result_by))]
+    #[tactic(auto, unfolding(crate::specs::Applied::result_by))]
     fn instr_result(&self, c: &Computed, loaded: u64) -> u64
-        ensures { result ≡ spec.result_by (kind self.now.instr.op) self.now.instr c.now loaded }
+        ensures { result ≡ spec.result_by (kind_of self.now.instr.op) self.now.instr c.now loaded }
     {
-        match self.instr.op {
-            Op::Ldub | Op::Ldsb | Op::Lduh | Op::Ldsh | Op::Lduw | Op::Ldsw | Op::Ldx => {
-                load_extend(self.instr.op, loaded)
-            }
-            Op::Ldstub | Op::Swap | Op::Casa | Op::Casxa => load_extend(self.instr.op, loaded),
+        match kind(self.instr.op) {
+            FormKind::Loads(_) | FormKind::LoadsAndStoresByte => load_extend(self.instr.op, loaded),
+            FormKind::Swaps | FormKind::ComparesAndSwaps(_) => load_extend(self.instr.op, loaded),
             _ => c.value,
         }
     }
@@ -272,25 +272,18 @@ impl Fetched {
         }
     }
 
-    #[tactic(auto, unfolding(crate::specs::Forms::kind, crate::specs::Applied::act_by))]
+    #[tactic(auto, unfolding(crate::specs::Applied::act_by))]
     fn instr_act(&self, x: &Operands, c: &Computed, loaded: u64) -> Act
-        ensures { result ≡ spec.act_by (kind self.now.instr.op) self.now x.now c.now loaded }
+        ensures { result ≡ spec.act_by (kind_of self.now.instr.op) self.now x.now c.now loaded }
     {
         let addr = Addr(c.addr);
-        match self.instr.op {
-            Op::Membar | Op::Stbar => Act::Fence(self.instr.mask),
-            Op::Ldub | Op::Ldsb => Act::Load(addr, Size::B1, loaded),
-            Op::Lduh | Op::Ldsh => Act::Load(addr, Size::B2, loaded),
-            Op::Lduw | Op::Ldsw => Act::Load(addr, Size::B4, loaded),
-            Op::Ldx => Act::Load(addr, Size::B8, loaded),
-            Op::Stb => Act::Store(addr, Size::B1, Size::B1.low(x.c)),
-            Op::Sth => Act::Store(addr, Size::B2, Size::B2.low(x.c)),
-            Op::Stw => Act::Store(addr, Size::B4, Size::B4.low(x.c)),
-            Op::Stx => Act::Store(addr, Size::B8, Size::B8.low(x.c)),
-            Op::Ldstub => Act::Atomic(addr, Size::B1, loaded, 0xff),
-            Op::Swap => Act::Atomic(addr, Size::B4, loaded, Size::B4.low(x.c)),
-            Op::Casa => self.compared(Size::B4, x, c, loaded),
-            Op::Casxa => self.compared(Size::B8, x, c, loaded),
+        match kind(self.instr.op) {
+            FormKind::Fences => Act::Fence(self.instr.mask),
+            FormKind::Loads(n) => Act::Load(addr, n, loaded),
+            FormKind::Stores(n) => Act::Store(addr, n, n.low(x.c)),
+            FormKind::LoadsAndStoresByte => Act::Atomic(addr, Size::B1, loaded, 0xff),
+            FormKind::Swaps => Act::Atomic(addr, Size::B4, loaded, Size::B4.low(x.c)),
+            FormKind::ComparesAndSwaps(n) => self.compared(n, x, c, loaded),
             _ => spoken(c.out),
         }
     }

@@ -8,18 +8,25 @@ use crate::arch::{Arch, End, O0};
 use crate::traps::TRAP_INSTRUCTION;
 use rsim_base::Pair;
 
-/// To the next instruction.
-pub(crate) fn straight(pair: Pair) -> Pair
-    ensures { result ≡ spec.straight pair }
+/// To a target at once, as at an entry.
+pub fn at_once_to(target: u64) -> Pair
+    ensures { result ≡ spec.at_once_to target }
 {
     Pair {
-        pc: pair.npc,
-        npc: pair.npc.wrapping_add(4),
+        pc: target,
+        npc: target.wrapping_add(4),
     }
 }
 
+/// To the next instruction.
+pub fn straight(pair: Pair) -> Pair
+    ensures { result ≡ spec.straight pair }
+{
+    at_once_to(pair.npc)
+}
+
 /// To the delay slot, and then the target.
-pub(crate) fn by_slot_to(target: u64, pair: Pair) -> Pair
+pub fn by_slot_to(target: u64, pair: Pair) -> Pair
     ensures { result ≡ spec.by_slot_to target pair }
 {
     Pair {
@@ -29,14 +36,11 @@ pub(crate) fn by_slot_to(target: u64, pair: Pair) -> Pair
 }
 
 /// Where a branch leads. `always` says that it has no condition.
-pub(crate) fn branched(always: bool, goes: bool, annul: bool, target: u64, pair: Pair) -> Pair
+pub fn branched(always: bool, goes: bool, annul: bool, target: u64, pair: Pair) -> Pair
     ensures { result ≡ spec.branched always goes annul target pair }
 {
     match (goes, annul) {
-        (true, true) if always => Pair {
-            pc: target,
-            npc: target.wrapping_add(4),
-        },
+        (true, true) if always => at_once_to(target),
         (true, _) => by_slot_to(target, pair),
         (false, true) => Pair {
             pc: pair.npc.wrapping_add(4),

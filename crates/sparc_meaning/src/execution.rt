@@ -12,9 +12,8 @@ use crate::control::branched;
 use crate::fetching::instr_at;
 use crate::traps::{DIVISION_BY_ZERO, MEM_ADDRESS_NOT_ALIGNED};
 use elf64_load::Image;
-use rsim_base::Size;
 use sparc_alu::{alu, bits_of, branch_taken, effective};
-use sparc_decode::{Instr, Op};
+use sparc_decode::{FormKind, Instr, kind};
 
 /// One step: the instruction at pc, or one access of a spill or fill of a register window. `value` is
 /// what memory has where the step reads it (`peek`), and is used by no other step. A step that ends the
@@ -49,8 +48,9 @@ pub fn step_at(arch: &mut Arch, i: &Instr, image: &Image, value: u64) -> Act
 
 impl Arch {
     ghost use Rattle.sparc_alu.specs.Results.{computed};
+    ghost use Rattle.sparc_decode.specs.Kinds.{kind as kind_of};
     ghost use Rattle.sparc_meaning.specs.Arch.{with_register};
-    ghost use Rattle.sparc_meaning.specs.Forms.{first, second, total, is_taken, branch, call, jump, move_if_taken, trap_if_taken, executed, kind, written};
+    ghost use Rattle.sparc_meaning.specs.Forms.{first, second, total, is_taken, branch, call, jump, move_if_taken, trap_if_taken, executed, written};
     ghost use Rattle.sparc_meaning.specs.Step.{of_instr};
     ghost use Rattle.sparc_meaning.specs.Stepped.{goes_on};
     ghost use Rattle.sparc_meaning.specs.Windows.{spills_first, fills_first, saved, restored};
@@ -107,43 +107,50 @@ impl Arch {
     }
 
     // An instruction, or the first step of the spill or fill that it needs.
-    #[tactic(auto, unfolding(crate::specs::Forms::kind, crate::specs::Forms::executed, crate::specs::Windows::spills_first, crate::specs::Windows::fills_first))]
     fn run(&mut self, i: &Instr, image: &Image, value: u64) -> Act
         requires sound { IsSound self.old }
         requires registers { IsInRange i.now }
         ensures { record { state = self.new; act = result } ≡ of_instr i.now image.now self.old value }
     {
-        match i.op {
-            Op::Trap => self.trap(i.trap),
-            Op::Bicc | Op::BPcc => self.branch(i.cond == 8, i),
-            Op::BPr => self.branch(false, i),
-            Op::Call => self.call(i),
-            Op::Jmpl => self.jump_and_link(i),
-            Op::Movcc | Op::Movr => self.move_if_taken(i),
-            Op::Tcc => self.trap_if_taken(i),
-            Op::Sethi => self.set(i.rd, bits_of(i.disp)),
-            Op::RdPc => self.set(i.rd, self.pc),
-            Op::Membar | Op::Stbar => self.go_on(Act::Fence(i.mask)),
-            Op::Save if self.cansave == 0 => self.spill(0, image),
-            Op::Flushw if self.cansave != 6 => self.spill(0, image),
-            Op::Restore | Op::Return if self.canrestore == 0 => self.fill(0, image, value),
-            Op::Save => self.save(i),
-            Op::Restore => self.restore(i),
-            Op::Return => self.return_to(i),
-            Op::Flush | Op::Flushw | Op::Prefetch => self.go_on(Act::Nothing),
-            Op::Ldub | Op::Ldsb => self.load(Size::B1, image, i, value),
-            Op::Lduh | Op::Ldsh => self.load(Size::B2, image, i, value),
-            Op::Lduw | Op::Ldsw => self.load(Size::B4, image, i, value),
-            Op::Ldx => self.load(Size::B8, image, i, value),
-            Op::Stb => self.store(Size::B1, image, i),
-            Op::Sth => self.store(Size::B2, image, i),
-            Op::Stw => self.store(Size::B4, image, i),
-            Op::Stx => self.store(Size::B8, image, i),
-            Op::Ldstub => self.load_store_byte(image, i, value),
-            Op::Swap => self.swap(image, i, value),
-            Op::Casa => self.compare_and_swap(Size::B4, image, i, value),
-            Op::Casxa => self.compare_and_swap(Size::B8, image, i, value),
-            _ => self.calculate(i),
+        if self.spills_first(i) {
+            self.spill(0, image)
+        } else if self.fills_first(i) {
+            self.fill(0, image, value)
+        } else {
+            self.execute(i, image, value)
+        }
+    }
+
+    // An instruction that needs neither.
+    #[tactic(auto, unfolding(crate::specs::Forms::executed))]
+    fn execute(&mut self, i: &Instr, image: &Image, value: u64) -> Act
+        requires sound { IsSound self.old }
+        requires registers { IsInRange i.now }
+        requires spilled { spills_first i.now.op self.old ≡ false }
+        requires filled { fills_first i.now.op self.old ≡ false }
+        ensures { record { state = self.new; act = result } ≡ executed (kind_of i.now.op) image.now i.now self.old value }
+    {
+        match kind(i.op) {
+            FormKind::Traps => self.trap(i.trap),
+            FormKind::BranchesOnCodes => self.branch(i.cond == 8, i),
+            FormKind::BranchesOnRegister => self.branch(false, i),
+            FormKind::Calls => self.call(i),
+            FormKind::Jumps => self.jump_and_link(i),
+            FormKind::Returns => self.return_to(i),
+            FormKind::Moves => self.move_if_taken(i),
+            FormKind::TrapsIfTaken => self.trap_if_taken(i),
+            FormKind::SetsHigh => self.set(i.rd, bits_of(i.disp)),
+            FormKind::ReadsPc => self.set(i.rd, self.pc),
+            FormKind::Fences => self.go_on(Act::Fence(i.mask)),
+            FormKind::DoesNothing => self.go_on(Act::Nothing),
+            FormKind::Saves => self.save(i),
+            FormKind::Restores => self.restore(i),
+            FormKind::Loads(n) => self.load(n, image, i, value),
+            FormKind::Stores(n) => self.store(n, image, i),
+            FormKind::LoadsAndStoresByte => self.load_store_byte(image, i, value),
+            FormKind::Swaps => self.swap(image, i, value),
+            FormKind::ComparesAndSwaps(n) => self.compare_and_swap(n, image, i, value),
+            FormKind::Computes => self.calculate(i),
         }
     }
 

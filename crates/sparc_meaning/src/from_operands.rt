@@ -2,8 +2,8 @@
 
 ghost use Rattle.std.specs.Prelude.{◌≡◌, ◌<◌, ◌^◌};
 ghost use Rattle.rsim_base.specs.Bytes.{count_of};
+ghost use Rattle.sparc_decode.specs.Kinds.{kind as kind_of};
 ghost use Rattle.sparc_meaning.specs.Computed as by;
-ghost use Rattle.sparc_meaning.specs.Forms.{kind};
 
 use crate::acts::Spoken;
 use crate::arch::{ArchPhase, End};
@@ -16,11 +16,11 @@ use crate::windows::slot_at;
 use elf64_load::Image;
 use rsim_base::{Addr, Size};
 use sparc_alu::{alu, bits_of, branch_taken, effective};
-use sparc_decode::{Op, Src2};
+use sparc_decode::{FormKind, Src2, kind};
 
 /// What a step gives, from its operands alone: its trap, the address of its access, the next pair, what it puts into
 /// the output and the values of its destinations, but for what it loads. `step` is this, applied to the state
-/// (`steps_are_computed`).
+/// (`laws::steps_are_computed`).
 pub fn compute(image: &Image, f: &Fetched, x: &Operands) -> Computed
     ensures { result ≡ by.computed image.now f.now x.now }
 {
@@ -52,36 +52,29 @@ fn fault(n: Size, addr: u64, allowed: bool, pc: u64) -> End
 
 impl Fetched {
     // What an instruction gives.
-    #[tactic(auto, unfolding(crate::specs::Forms::kind, crate::specs::Computed::computed_by))]
+    #[tactic(auto, unfolding(crate::specs::Computed::computed_by))]
     fn compute(&self, image: &Image, x: &Operands) -> Computed
-        ensures { result ≡ by.computed_by (kind self.now.instr.op) image.now self.now x.now }
+        ensures { result ≡ by.computed_by (kind_of self.now.instr.op) image.now self.now x.now }
     {
         let i = &self.instr;
-        match i.op {
-            Op::Trap => self.trap(i.trap),
-            Op::Bicc | Op::BPcc => self.branch(i.cond == 8, x),
-            Op::BPr => self.branch(false, x),
-            Op::Call => self.link_to(effective(self.pair.pc, bits_of(i.disp))),
-            Op::Jmpl | Op::Return => self.jump(self.total(x)),
-            Op::Movcc | Op::Movr => self.move_if_taken(x),
-            Op::Tcc => self.trap_if_taken(x),
-            Op::Sethi => self.give(bits_of(i.disp)),
-            Op::RdPc => self.give(self.pair.pc),
-            Op::Membar | Op::Stbar | Op::Flush | Op::Flushw | Op::Prefetch => self.plain(),
-            Op::Save | Op::Restore => self.give(self.total(x)),
-            Op::Ldub | Op::Ldsb => self.load(Size::B1, self.total(x), image),
-            Op::Lduh | Op::Ldsh => self.load(Size::B2, self.total(x), image),
-            Op::Lduw | Op::Ldsw => self.load(Size::B4, self.total(x), image),
-            Op::Ldx => self.load(Size::B8, self.total(x), image),
-            Op::Stb => self.store(Size::B1, self.total(x), image),
-            Op::Sth => self.store(Size::B2, self.total(x), image),
-            Op::Stw => self.store(Size::B4, self.total(x), image),
-            Op::Stx => self.store(Size::B8, self.total(x), image),
-            Op::Ldstub => self.exchange(Size::B1, self.total(x), image),
-            Op::Swap => self.exchange(Size::B4, self.total(x), image),
-            Op::Casa => self.exchange(Size::B4, x.a, image),
-            Op::Casxa => self.exchange(Size::B8, x.a, image),
-            _ => self.calculate(x),
+        match kind(i.op) {
+            FormKind::Traps => self.trap(i.trap),
+            FormKind::BranchesOnCodes => self.branch(i.cond == 8, x),
+            FormKind::BranchesOnRegister => self.branch(false, x),
+            FormKind::Calls => self.link_to(effective(self.pair.pc, bits_of(i.disp))),
+            FormKind::Jumps | FormKind::Returns => self.jump(self.total(x)),
+            FormKind::Moves => self.move_if_taken(x),
+            FormKind::TrapsIfTaken => self.trap_if_taken(x),
+            FormKind::SetsHigh => self.give(bits_of(i.disp)),
+            FormKind::ReadsPc => self.give(self.pair.pc),
+            FormKind::Fences | FormKind::DoesNothing => self.plain(),
+            FormKind::Saves | FormKind::Restores => self.give(self.total(x)),
+            FormKind::Loads(n) => self.load(n, self.total(x), image),
+            FormKind::Stores(n) => self.store(n, self.total(x), image),
+            FormKind::LoadsAndStoresByte => self.exchange(Size::B1, self.total(x), image),
+            FormKind::Swaps => self.exchange(Size::B4, self.total(x), image),
+            FormKind::ComparesAndSwaps(n) => self.exchange(n, x.a, image),
+            FormKind::Computes => self.calculate(x),
         }
     }
 

@@ -1,6 +1,6 @@
 //! Laws of the step. Their functions do nothing: a law is a contract.
 
-ghost use Rattle.sparc_meaning.specs.Kept.{OutsAreIns, WindowsAreKept};
+ghost use Rattle.sparc_meaning.specs.KeptWindows.{OutsAreIns, WindowsAreKept};
 ghost use Rattle.sparc_meaning.specs.Laws as law;
 
 /// A step is what its operands compute, applied to the state. So what an instruction names as its sources and

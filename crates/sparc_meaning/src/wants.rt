@@ -12,7 +12,7 @@ use crate::arch::{Arch, ArchPhase};
 use crate::fetching::instr_at;
 use elf64_load::Image;
 use rsim_base::{Addr, Size};
-use sparc_decode::{Instr, Op};
+use sparc_decode::{FormKind, Instr, kind};
 
 /// The access by which the next step reads memory, if it makes one; a step that traps or only stores
 /// makes none.
@@ -67,7 +67,8 @@ fn atomic(n: Size, addr: u64, image: &Image) -> Want
 }
 
 impl Arch {
-    ghost use Rattle.sparc_meaning.specs.Wants.{wanted, by_fill, by_instr};
+    ghost use Rattle.sparc_meaning.specs.Wants.{wanted, by_fill, by_instr, by_kind};
+    ghost use Rattle.sparc_decode.specs.Kinds.{kind as kind_of};
 
     // What a step reads, by what the processor is at.
     #[tactic(auto, unfolding(crate::specs::Wants::wanted))]
@@ -95,23 +96,34 @@ impl Arch {
     }
 
     // What an instruction reads, or the first step of the fill that it needs.
-    #[tactic(auto, unfolding(crate::specs::Forms::kind, crate::specs::Wants::by_kind, crate::specs::Windows::spills_first, crate::specs::Windows::fills_first))]
     fn instr_wants(&self, i: &Instr, image: &Image) -> Want
         requires sound { IsSound self.now }
         requires registers { IsInRange i.now }
         ensures value { result ≡ by_instr i.now image.now self.now }
         ensures aligned { IsAlignedWant result }
     {
-        match i.op {
-            Op::Ldub | Op::Ldsb => load(Size::B1, self.total(i), image),
-            Op::Lduh | Op::Ldsh => load(Size::B2, self.total(i), image),
-            Op::Lduw | Op::Ldsw => load(Size::B4, self.total(i), image),
-            Op::Ldx => load(Size::B8, self.total(i), image),
-            Op::Ldstub => atomic(Size::B1, self.total(i), image),
-            Op::Swap => atomic(Size::B4, self.total(i), image),
-            Op::Casa => atomic(Size::B4, self.first(i), image),
-            Op::Casxa => atomic(Size::B8, self.first(i), image),
-            Op::Restore | Op::Return if self.canrestore == 0 => self.fill_wants(0, image),
+        if self.spills_first(i) {
+            Want::None
+        } else if self.fills_first(i) {
+            self.fill_wants(0, image)
+        } else {
+            self.kind_wants(i, image)
+        }
+    }
+
+    // What an instruction reads itself.
+    #[tactic(auto, unfolding(crate::specs::Wants::by_kind))]
+    fn kind_wants(&self, i: &Instr, image: &Image) -> Want
+        requires sound { IsSound self.now }
+        requires registers { IsInRange i.now }
+        ensures value { result ≡ by_kind (kind_of i.now.op) image.now i.now self.now }
+        ensures aligned { IsAlignedWant result }
+    {
+        match kind(i.op) {
+            FormKind::Loads(n) => load(n, self.total(i), image),
+            FormKind::LoadsAndStoresByte => atomic(Size::B1, self.total(i), image),
+            FormKind::Swaps => atomic(Size::B4, self.total(i), image),
+            FormKind::ComparesAndSwaps(n) => atomic(n, self.first(i), image),
             _ => Want::None,
         }
     }

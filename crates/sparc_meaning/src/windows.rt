@@ -1,7 +1,8 @@
 //! Register windows, and their spills and fills (SPARC V9, 5.1.1 and 6.4).
 
-ghost use Rattle.std.specs.Prelude.{◌≡◌, ◌<◌, ◌≤◌, ◌+◌};
+ghost use Rattle.std.specs.Prelude.{◌≡◌, ◌≢◌, ◌<◌, ◌≤◌, ◌+◌, IsTrue};
 ghost use Rattle.sparc_meaning.specs.Arch.{IsSound};
+ghost use Rattle.sparc_meaning.specs.Fetched as part;
 ghost use Rattle.sparc_meaning.specs.Windows as spec;
 
 use crate::acts::Act;
@@ -9,7 +10,7 @@ use crate::arch::{Arch, ArchPhase, L0, O6, above, below};
 use crate::traps::{DATA_ACCESS_EXCEPTION, MEM_ADDRESS_NOT_ALIGNED};
 use elf64_load::Image;
 use rsim_base::{Addr, Size, Window};
-use sparc_decode::Op;
+use sparc_decode::{Instr, WindowEffect, window_effect};
 
 // How far above a window's stack pointer its save area lies (H.1.3).
 const BIAS: u64 = 2047;
@@ -42,6 +43,30 @@ pub(crate) fn window_below(w: Window) -> Window
         cwp: below(w.cwp),
         cansave: w.cansave + 1,
         canrestore: w.canrestore - 1,
+    }
+}
+
+/// Whether an instruction of this effect must spill a window before it runs: SAVE has none to save to, or FLUSHW not all
+/// of them.
+pub fn must_spill(effect: WindowEffect, w: Window) -> bool
+    ensures value { result ≡ part.spills_by effect w }
+    ensures kept { IsTrue result → w.cansave ≢ 6 }
+{
+    match effect {
+        WindowEffect::Save => w.cansave == 0,
+        WindowEffect::Flush => w.cansave != 6,
+        WindowEffect::Same | WindowEffect::Restore => false,
+    }
+}
+
+/// Whether it must fill one: RESTORE or RETURN has none to restore from.
+pub fn must_fill(effect: WindowEffect, w: Window) -> bool
+    ensures value { result ≡ part.fills_by effect w }
+    ensures room { IsTrue result → w.canrestore ≡ 0 }
+{
+    match effect {
+        WindowEffect::Restore => w.canrestore == 0,
+        WindowEffect::Same | WindowEffect::Save | WindowEffect::Flush => false,
     }
 }
 
@@ -130,26 +155,19 @@ impl Arch {
     }
 
     /// Whether an instruction must wait for the spill of a window.
-    #[tactic(auto, unfolding(crate::specs::Windows::spills_first))]
-    pub(crate) fn spills_first(&self, op: Op) -> bool
-        ensures { result ≡ spills_first op self.now }
+    pub(crate) fn spills_first(&self, i: &Instr) -> bool
+        ensures value { result ≡ spills_first i.now.op self.now }
+        ensures kept { IsTrue result → self.now.cansave ≢ 6 }
     {
-        match op {
-            Op::Save => self.cansave == 0,
-            Op::Flushw => self.cansave != 6,
-            _ => false,
-        }
+        must_spill(window_effect(i), self.window())
     }
 
     /// Whether an instruction must wait for the fill of a window.
-    #[tactic(auto, unfolding(crate::specs::Windows::fills_first))]
-    pub(crate) fn fills_first(&self, op: Op) -> bool
-        ensures { result ≡ fills_first op self.now }
+    pub(crate) fn fills_first(&self, i: &Instr) -> bool
+        ensures value { result ≡ fills_first i.now.op self.now }
+        ensures room { IsTrue result → self.now.canrestore ≡ 0 }
     {
-        match op {
-            Op::Restore | Op::Return => self.canrestore == 0,
-            _ => false,
-        }
+        must_fill(window_effect(i), self.window())
     }
 
     // The window that a spill stores.

@@ -1,6 +1,7 @@
 -- What may be relied on where a line is coherent.
 use Rattle.std.proofs.Common.{◌≡◌, ℕ, ◌+◌, ◌≤◌, Bool, true, false, cond, ◌==◌, ◌⊎◌, inl, inr, List, [], ◌∷◌, Option, None, Some, refl, sym, ap, ◌∙◌, subst, true≢false, arith}
 use Rattle.std.proofs.lemmas.Bool.{eqb-true, eq-eqb}
+use Rattle.memory_contracts.specs.Protocol.Promised.{promised_waits}
 use Rattle.memory_contracts.specs.Protocol.Messages.{Message, Recall, Grant, RecallAck, Done}
 use Rattle.memory_contracts.specs.Protocol.Lines.{Phase, Idle, Collecting, Recalling, Granting, Shared, Stance, Cell, LineState}
 use Rattle.memory_contracts.specs.Protocol.Roles.{Role, Owning, Served, Recalled, Granted, listed, role}
@@ -202,10 +203,6 @@ one_row g c _ (granted_shared memory m w s) = word_alone c.words 0 c.stance.acks
 
 pub one_from_home : OneFromHome
 one_from_home n g l x co below = one_row g (l.at x) (role l.home x) (co.nodes x below)
-
-promised_waits : (g : List ℕ) (may : Bool) (s : Stance) → IsPromised g may s → s.register ≡ true
-promised_waits g may s (fresh e) = ap (λ s. s.register) e
-promised_waits g _ s (upgraded e) = ap (λ s. s.register) e
 
 abbrev bytes_granted : List Message → List ℕ
 bytes_granted (Grant own bytes ∷ ms) = bytes

@@ -1,6 +1,6 @@
 use Rattle.std.proofs.Common.{◌≡◌, ◌&&◌, ◌||◌, ◌==◌, ap, ◌∙◌, refl, sym, Bool, true, false, None, get_or, take, arith}
 use Rattle.std.proofs.lemmas.List.Folds.{list_any_more}
-use Rattle.places.specs.Sets.{has}
+use Rattle.ring_set.specs.Sets.{has}
 use Rattle.issue_queue.specs.Needs.{is_need, needs_it, readers_at}
 use Rattle.issue_queue.proofs.needs.note_readers.Goals as goal
 

@@ -1,5 +1,5 @@
 use Rattle.std.proofs.Common.{◌≡◌, ℕ, ◌==◌, ◌&&◌, ◌||◌, length, take}
-use Rattle.places.specs.Sets.{has}
+use Rattle.ring_set.specs.Sets.{has}
 use Rattle.issue_queue.specs.Needs.{needs_it, readers_at}
 use Rattle.issue_queue.proofs.needs.note_readers.Given as goal
 

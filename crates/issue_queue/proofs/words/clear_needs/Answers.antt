@@ -1,5 +1,5 @@
 use Rattle.std.proofs.Common.{◌≡◌, ◌&&◌, ◌||◌, Bool, true, false, not, [], slice_index_or, ap, ◌∙◌, refl}
-use Rattle.places.specs.Sets.{has}
+use Rattle.ring_set.specs.Sets.{has}
 use Rattle.issue_queue.specs.Needs.{is_clear}
 use Rattle.issue_queue.specs.Words.{needs_now}
 use Rattle.issue_queue.proofs.Firsts.{none_of_all}

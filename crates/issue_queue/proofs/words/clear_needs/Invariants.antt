@@ -1,5 +1,5 @@
 use Rattle.std.proofs.Common.{◌≡◌, ℕ, ◌<◌, ◌&&◌, ◌||◌, true, not, [], length, slice_index_or}
-use Rattle.places.specs.Sets.{has}
+use Rattle.ring_set.specs.Sets.{has}
 use Rattle.issue_queue.specs.Needs.{is_clear}
 use Rattle.issue_queue.specs.Words.{needs_now}
 use Rattle.issue_queue.proofs.words.clear_needs.Given as goal

@@ -1,5 +1,5 @@
 use Rattle.std.proofs.Common.{◌&&◌, ◌||◌, nat_le, slice_index, ap, ◌∙◌}
-use Rattle.places.specs.Sets.{has}
+use Rattle.ring_set.specs.Sets.{has}
 use Rattle.issue_queue.proofs.Firsts.{none_of_all}
 use Rattle.issue_queue.proofs.words.ended.Goals as goal
 

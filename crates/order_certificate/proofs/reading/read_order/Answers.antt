@@ -1,5 +1,6 @@
 use Rattle.std.proofs.Common.{◌≡◌, ◌+◌, ◌<◌, ◌≤◌, length, sum, Some, None, Err, sym, ap, ◌∙◌, subst, arith, rules}
 use Rattle.std.proofs.lemmas.Bool.Decides.{nat_tests}
+use Rattle.rsim_base.specs.Limits.{max_steps}
 use Rattle.order_certificate.specs.declared.fault.TextFault.TheVariants.{BadLine}
 use Rattle.order_certificate.specs.Fields.{ending_at, fault_at}
 use Rattle.order_certificate.specs.Reading.{pieces, IsOrder, order_of, Reads}
@@ -36,7 +37,7 @@ pub returns-then-not-is_empty : goal.returns-then-not-is_empty
 returns-then-not-is_empty c =
     let end : ending_at c.args.processors c.in_ok-lines.rest.now ≡ Some (c.in-Some.counts.items, c.in-Some.left.now) = search rules in
     let is = order_end c.args.model c.args.processors c.args.text.now c.in_ok-lines.lines.items c.in_ok-lines.rest.now c.in-Some.counts.items c.in-Some.left.now c.in_ok-lines.ensures.lines end in
-    let few : sum c.in-Some.counts.items ≤ 8000000 = omega arith in
+    let few : sum c.in-Some.counts.items ≤ max_steps = omega arith in
     let some : 0 < length c.in-Some.left.now = grind (arith, nat_tests) in
     let line : 4 + length c.in_ok-lines.lines.items + 1 ≡ 4 + c.len.result + 1 = search rules in
     subst (IsOrder c.args.model c.args.processors (pieces c.args.text.now))
@@ -46,7 +47,7 @@ pub returns : goal.returns
 returns c =
     let end : ending_at c.args.processors c.in_ok-lines.rest.now ≡ Some (c.in-Some.counts.items, c.in-Some.left.now) = search rules in
     let is = order_end c.args.model c.args.processors c.args.text.now c.in_ok-lines.lines.items c.in_ok-lines.rest.now c.in-Some.counts.items c.in-Some.left.now c.in_ok-lines.ensures.lines end in
-    let few : sum c.in-Some.counts.items ≤ 8000000 = omega arith in
+    let few : sum c.in-Some.counts.items ≤ max_steps = omega arith in
     let none : length c.in-Some.left.now ≡ 0 = grind (arith, nat_tests) in
     subst (IsOrder c.args.model c.args.processors (pieces c.args.text.now))
     (ended_all c.in-Some.counts.items (order_of c.args.model c.args.processors c.in_ok-lines.lines.items c.in-Some.counts.items) (4 + length c.in_ok-lines.lines.items + 1) c.in-Some.left.now few none) is

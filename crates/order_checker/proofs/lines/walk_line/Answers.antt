@@ -8,20 +8,20 @@ reach-requires c = (c.requires.certificate.in_text c.args.place c.args.line.now 
 
 pub fault_of-requires-clause-at : goal.fault_of-requires-clause-at
 fault_of-requires-clause-at c =
-    IsAtLine-reached c.args.image.now c.args.order.now c.args.place c.args.line.now c.args.walk.now c.reach.new.self c.requires.certificate c.requires.strays c.requires.stands c.requires.walk c.reach.ensures.same c.in-Ok.ensures.walked c.in-Ok.ensures.reached
+    IsAtLine-reached c.args.image.now c.args.order.now c.args.place c.args.line.now c.args.walk.now c.reach.new.self c.requires.certificate c.requires.strays c.requires.stands c.requires.walk c.reach.ensures.same c.in_ok-reach.ensures.walked c.in_ok-reach.ensures.reached
 
 pub store-requires-clause-aligned : goal.store-requires-clause-aligned
 store-requires-clause-aligned c =
     (IsAt-from c.args.image.now c.args.order.now c.args.place c.args.line.now c.reach.new.self
-    (IsAtLine-reached c.args.image.now c.args.order.now c.args.place c.args.line.now c.args.walk.now c.reach.new.self c.requires.certificate c.requires.strays c.requires.stands c.requires.walk c.reach.ensures.same c.in-Ok.ensures.walked c.in-Ok.ensures.reached)).aligned
+    (IsAtLine-reached c.args.image.now c.args.order.now c.args.place c.args.line.now c.args.walk.now c.reach.new.self c.requires.certificate c.requires.strays c.requires.stands c.requires.walk c.reach.ensures.same c.in_ok-reach.ensures.walked c.in_ok-reach.ensures.reached)).aligned
 
 pub pass-requires : goal.pass-requires
 pass-requires c =
     left_before c.args.image.now c.args.order.now c.args.place c.args.line.now c.reach.new.self
-    (IsAtLine-reached c.args.image.now c.args.order.now c.args.place c.args.line.now c.args.walk.now c.reach.new.self c.requires.certificate c.requires.strays c.requires.stands c.requires.walk c.reach.ensures.same c.in-Ok.ensures.walked c.in-Ok.ensures.reached)
+    (IsAtLine-reached c.args.image.now c.args.order.now c.args.place c.args.line.now c.args.walk.now c.reach.new.self c.requires.certificate c.requires.strays c.requires.stands c.requires.walk c.reach.ensures.same c.in_ok-reach.ensures.walked c.in_ok-reach.ensures.reached)
 
 pub returns-clause-walked : goal.returns-clause-walked
 returns-clause-walked c =
     IsWalk-passed c.args.image.now c.args.order.now c.args.place c.args.line.now c.reach.new.self c.pass.new.self
-    (IsAtLine-reached c.args.image.now c.args.order.now c.args.place c.args.line.now c.args.walk.now c.reach.new.self c.requires.certificate c.requires.strays c.requires.stands c.requires.walk c.reach.ensures.same c.in-Ok.ensures.walked c.in-Ok.ensures.reached)
+    (IsAtLine-reached c.args.image.now c.args.order.now c.args.place c.args.line.now c.args.walk.now c.reach.new.self c.requires.certificate c.requires.strays c.requires.stands c.requires.walk c.reach.ensures.same c.in_ok-reach.ensures.walked c.in_ok-reach.ensures.reached)
     c.pass.ensures.same c.pass.ensures.next c.pass.ensures.left

@@ -5,7 +5,8 @@ use Rattle.cycle_loop.specs.Start.{IsAtStart}
 use Rattle.memory_contracts.specs.Start.{IsStart}
 use Rattle.rsim_top.specs.Machine.{shared_view}
 use Rattle.rsim_top.specs.Run.{RunsOn}
-use Rattle.rsim_top.proofs.Running.{HasRun-closed, few_cycles, sizes_of}
+use Rattle.rsim_top.proofs.Running.{HasRun-closed, few_cycles}
+use Rattle.machine_config.specs.Sizes.{sizes_of}
 use Rattle.rsim_top.proofs.machine.run.Goals as goal
 
 pub run_cycles-requires-clause-few : goal.run_cycles-requires-clause-few

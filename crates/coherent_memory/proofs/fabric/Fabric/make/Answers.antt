@@ -3,7 +3,7 @@ use Rattle.memory_contracts.specs.Carrier.{CarrierView}
 use Rattle.coherent_memory.specs.Fabrics.{system_with}
 use Rattle.coherent_memory.specs.First.{IsFirst}
 use Rattle.coherent_memory.specs.Systems.{System}
-use Rattle.coherent_memory.proofs.Sizes.{sizes_of}
+use Rattle.machine_config.specs.Sizes.{sizes_of}
 use Rattle.coherent_memory.proofs.Starting.{fine-first}
 use Rattle.coherent_memory.proofs.fabric.Fabric.make.Goals as goal
 
@@ -25,6 +25,6 @@ invariant_of-result g c =
       home_count = c.in_ok-make.ensures.count;
       node_count = c.in_ok-make-2.ensures.count;
       carried = ap (λ (v : CarrierView). v.nodes) c.requires.carrier;
-      few = sizes.few;
-      fine = ∣ fine-first laws.lists laws.order laws.current c.args.image.now config s (omega (arith, sizes.some)) first ∣₁;
+      few = sizes.processors.1;
+      fine = ∣ fine-first laws.lists laws.order laws.current c.args.image.now config s (omega (arith, sizes.processors.0)) first ∣₁;
     }

@@ -2,7 +2,7 @@ use Rattle.std.proofs.Common.{◌<◌, sym, subst, ◌∙◌}
 use Rattle.std.proofs.Math.Logic.{∥∥₁_map}
 use Rattle.node_memory.specs.Nodes.{after_read}
 use Rattle.coherent_memory.specs.Fabrics.{system_with}
-use Rattle.coherent_memory.specs.Fine.{HasKept, IsFine}
+use Rattle.coherent_memory.specs.SystemInvariants.{HasKept, IsFine}
 use Rattle.coherent_memory.specs.NodeRows.{nodes_in}
 use Rattle.coherent_memory.specs.Systems.{System}
 use Rattle.coherent_memory.proofs.Accessing.{read-keeps}

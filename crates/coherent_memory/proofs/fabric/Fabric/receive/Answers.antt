@@ -2,7 +2,7 @@ use Rattle.std.proofs.Common.{◌≡◌, ◌<◌, ℕ, true, false, [], ◌++◌
 use Rattle.std.proofs.Math.Logic.{∥∥₁_map}
 use Rattle.memory_contracts.specs.Carrier.{CarrierView}
 use Rattle.memory_contracts.specs.Protocol.Events.{is_to_home}
-use Rattle.memory_contracts.specs.Said.{letter_of, said}
+use Rattle.memory_contracts.specs.Letters.{letter_of, said}
 use Rattle.memory_contracts.specs.Updates.{with_at}
 use Rattle.memory_contracts.specs.declared.message.Message.{Message}
 use Rattle.directory.specs.Homes.{HomeView, home_after}
@@ -10,7 +10,7 @@ use Rattle.node_memory.specs.Nodes.{awaits, left_from}
 use Rattle.node_memory.specs.Rows.{after_message, is_grant, lost_at}
 use Rattle.coherent_memory.specs.FabricViews.{system_of}
 use Rattle.coherent_memory.specs.Fabrics.{system_with}
-use Rattle.coherent_memory.specs.Fine.{IsFine}
+use Rattle.coherent_memory.specs.SystemInvariants.{IsFine}
 use Rattle.coherent_memory.specs.HomeRows.{homes_in}
 use Rattle.coherent_memory.specs.NodeRows.{nodes_in}
 use Rattle.coherent_memory.specs.Rooms.{Grows}

@@ -1,9 +1,9 @@
 use Rattle.std.proofs.Common.{◌≡◌, refl, sym, ap, subst, ◌∙◌, arith}
 use Rattle.std.proofs.Math.Logic.{∥∥₁_map}
 use Rattle.memory_contracts.specs.Carrier.{CarrierView, class_of, is_full}
-use Rattle.memory_contracts.specs.Said.{Mail, told}
+use Rattle.memory_contracts.specs.Letters.{Mail, told}
 use Rattle.coherent_memory.specs.Fabrics.{system_with}
-use Rattle.coherent_memory.specs.Fine.{IsFine}
+use Rattle.coherent_memory.specs.SystemInvariants.{IsFine}
 use Rattle.coherent_memory.specs.HomeRows.{homes_in}
 use Rattle.coherent_memory.specs.Sending.{none, refused, sent}
 use Rattle.coherent_memory.specs.Systems.{System}

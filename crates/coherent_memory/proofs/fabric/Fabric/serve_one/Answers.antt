@@ -1,7 +1,7 @@
 use Rattle.std.proofs.Common.{sym, subst, ◌∙◌}
 use Rattle.std.proofs.Math.Logic.{∥∥₁_map}
 use Rattle.coherent_memory.specs.Fabrics.{system_with}
-use Rattle.coherent_memory.specs.Fine.{IsFine}
+use Rattle.coherent_memory.specs.SystemInvariants.{IsFine}
 use Rattle.coherent_memory.specs.Systems.{System}
 use Rattle.coherent_memory.proofs.Fabrics.{with-homes}
 use Rattle.coherent_memory.proofs.Serving.{served-fine}

@@ -2,7 +2,7 @@ use Rattle.std.proofs.Common.{◌<◌, ℕ, sym, ap, subst, ◌∙◌}
 use Rattle.std.proofs.Math.Logic.{∥∥₁_map, ∥∥₁_map₂}
 use Rattle.memory_contracts.specs.Carrier.{CarrierView}
 use Rattle.coherent_memory.specs.FabricViews.{system_of}
-use Rattle.coherent_memory.specs.Fine.{HasKept, IsFine}
+use Rattle.coherent_memory.specs.SystemInvariants.{HasKept, IsFine}
 use Rattle.coherent_memory.specs.Lost.{AreGoneBelow}
 use Rattle.coherent_memory.specs.Systems.{System}
 use Rattle.coherent_memory.specs.Turns.{with_carrier}

@@ -2,7 +2,7 @@ use Rattle.std.proofs.Common.{◌++◌, ◌<◌, append_assoc, refl, sym, ap, su
 use Rattle.std.proofs.Math.Logic.{∥∥₁_map}
 use Rattle.node_memory.specs.Sound.{IsSound}
 use Rattle.coherent_memory.specs.FabricViews.{system_of}
-use Rattle.coherent_memory.specs.Fine.{IsFine}
+use Rattle.coherent_memory.specs.SystemInvariants.{IsFine}
 use Rattle.coherent_memory.specs.Systems.{System}
 use Rattle.coherent_memory.specs.Turns.{Receives, Turn, begun, lost_at_begin}
 use Rattle.coherent_memory.proofs.Fabrics.{nodes-sound}

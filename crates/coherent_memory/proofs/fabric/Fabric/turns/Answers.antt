@@ -6,7 +6,7 @@ use Rattle.rsim_base.specs.declared.memory.Node.{Node}
 use Rattle.node_memory.specs.Nodes.{NodeView}
 use Rattle.node_memory.specs.Sound.{AreBefore}
 use Rattle.coherent_memory.specs.FabricViews.{system_of}
-use Rattle.coherent_memory.specs.Fine.{HasKept, IsFine}
+use Rattle.coherent_memory.specs.SystemInvariants.{HasKept, IsFine}
 use Rattle.coherent_memory.specs.Lost.{AreGoneBelow, AreGoneFrom}
 use Rattle.coherent_memory.specs.Systems.{System}
 use Rattle.coherent_memory.specs.Turns.{Turns, before, next}

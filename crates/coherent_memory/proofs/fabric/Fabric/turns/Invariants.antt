@@ -1,6 +1,6 @@
 use Rattle.std.proofs.Common.{◌≡◌, ◌*◌, ◌≤◌, length}
 use Rattle.coherent_memory.specs.FabricViews.{system_of}
-use Rattle.coherent_memory.specs.Fine.{HasKept}
+use Rattle.coherent_memory.specs.SystemInvariants.{HasKept}
 use Rattle.coherent_memory.specs.Lost.{AreGoneBelow}
 use Rattle.coherent_memory.specs.Turns.{Turns}
 use Rattle.coherent_memory.proofs.fabric.Fabric.turns.Given as goal

@@ -1,5 +1,5 @@
 use Rattle.std.proofs.Common.{refl}
-use Rattle.coherent_memory.specs.Wholes.{shape_of}
+use Rattle.coherent_memory.specs.MemoryInvariants.{shape_of}
 use Rattle.coherent_memory.proofs.Making.{AreMade, made-small, made-start, made-whole}
 use Rattle.coherent_memory.proofs.Memories.{fabric-sound}
 use Rattle.coherent_memory.proofs.memory.CoherentMemory.make.Goals as goal

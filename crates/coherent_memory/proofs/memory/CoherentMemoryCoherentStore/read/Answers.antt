@@ -3,7 +3,7 @@ use Rattle.node_memory.specs.Nodes.{after_read}
 use Rattle.coherent_memory.specs.FabricViews.{system_of}
 use Rattle.coherent_memory.specs.Stores.{Shape, store_of}
 use Rattle.coherent_memory.specs.Systems.{System}
-use Rattle.coherent_memory.specs.Wholes.{IsWhole, shape_of}
+use Rattle.coherent_memory.specs.MemoryInvariants.{IsWhole, shape_of}
 use Rattle.coherent_memory.proofs.Fabrics.{nodes-sound}
 use Rattle.coherent_memory.proofs.Memories.{fabric-sound, whole-node}
 use Rattle.coherent_memory.proofs.ReadStore.{read-recency, read-store, read-value}

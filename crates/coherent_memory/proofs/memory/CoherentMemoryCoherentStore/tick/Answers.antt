@@ -4,7 +4,7 @@ use Rattle.coherent_memory.specs.FabricViews.{system_of}
 use Rattle.coherent_memory.specs.Stores.{Shape, store_of}
 use Rattle.coherent_memory.specs.Systems.{System}
 use Rattle.coherent_memory.specs.Turns.{HasTicked}
-use Rattle.coherent_memory.specs.Wholes.{IsWhole, shape_of}
+use Rattle.coherent_memory.specs.MemoryInvariants.{IsWhole, shape_of}
 use Rattle.coherent_memory.proofs.Memories.{fabric-sound, whole-tick}
 use Rattle.coherent_memory.proofs.Ticking.{tick-store}
 use Rattle.coherent_memory.proofs.memory.CoherentMemoryCoherentStore.tick.Goals as goal

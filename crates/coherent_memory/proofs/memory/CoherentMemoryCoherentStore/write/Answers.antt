@@ -4,7 +4,7 @@ use Rattle.node_memory.specs.Nodes.{after_write}
 use Rattle.coherent_memory.specs.FabricViews.{system_of}
 use Rattle.coherent_memory.specs.Stores.{Shape, store_of}
 use Rattle.coherent_memory.specs.Systems.{System}
-use Rattle.coherent_memory.specs.Wholes.{IsWhole, shape_of}
+use Rattle.coherent_memory.specs.MemoryInvariants.{IsWhole, shape_of}
 use Rattle.coherent_memory.proofs.Fabrics.{nodes-sound}
 use Rattle.coherent_memory.proofs.Memories.{fabric-sound, whole-node}
 use Rattle.coherent_memory.proofs.WriteStore.{WriteLaws, write-bytes, write-store}

@@ -5,11 +5,11 @@ use Rattle.node_memory.specs.declared.node.NodeMemory.{NodeMemory}
 use Rattle.coherent_memory.specs.NodeRows.{no_node}
 use Rattle.coherent_memory.specs.Rows.{rows_of}
 use Rattle.coherent_memory.proofs.PartRows.{rows_of-more}
-use Rattle.coherent_memory.proofs.Sizes.{sizes_of}
+use Rattle.machine_config.specs.Sizes.{sizes_of}
 use Rattle.coherent_memory.proofs.nodes.Nodes.make.Goals as goal
 
 pub overflow_cast-p : goal.overflow_cast-p
-overflow_cast-p c = omega (arith, (sizes_of c.args.config.now c.requires).few)
+overflow_cast-p c = omega (arith, (sizes_of c.args.config.now c.requires).processors.1)
 
 pub loop-p-preserved : goal.loop-p-preserved
 loop-p-preserved c =

@@ -1,6 +1,6 @@
 use Rattle.std.proofs.Common.{◌++◌, sym, ap, ◌∙◌}
 use Rattle.node_memory.specs.NodeViews.{node_of}
-use Rattle.memory_contracts.specs.Said.{letter_of}
+use Rattle.memory_contracts.specs.Letters.{letter_of}
 use Rattle.node_memory.specs.Nodes.{NodeView, left_from}
 use Rattle.node_memory.specs.Rows.{after_message, lost_at}
 use Rattle.coherent_memory.specs.NodeRows.{no_node}

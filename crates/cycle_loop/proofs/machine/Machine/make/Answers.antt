@@ -2,24 +2,24 @@ use Rattle.std.proofs.Common.{◌≤◌, arith}
 use Rattle.cycle_loop.specs.Machines.{machine_view}
 use Rattle.cycle_loop.specs.Ready.{views_of}
 use Rattle.cycle_loop.proofs.Keeping.{IsAtStart-made, IsReady-start}
-use Rattle.cycle_loop.proofs.Sizes.{sizes_of}
+use Rattle.machine_config.specs.Sizes.{sizes_of}
 use Rattle.cycle_loop.proofs.Starting.{Stands-start}
 use Rattle.cycle_loop.proofs.machine.Machine.make.Goals as goal
 
 pub overflow_cast-config : goal.overflow_cast-config
 overflow_cast-config g c =
-    let nodes : c.args.config.processors ≤ 16 = (sizes_of c.args.config c.requires.allowed).nodes in
+    let nodes = (sizes_of c.args.config c.requires.allowed).processors.1 in
     omega arith
 
 pub boot_all-requires : goal.boot_all-requires
-boot_all-requires g c = (sizes_of c.args.config c.requires.allowed).nodes
+boot_all-requires g c = (sizes_of c.args.config c.requires.allowed).processors.1
 
 pub invariant_of-result : goal.invariant_of-result
 invariant_of-result g c =
     let sizes = sizes_of c.args.config c.requires.allowed in
     record {
       ready = IsReady-start c.args.image c.args.config c.from.result (g.M.CoherentStore.meaning c.args.store) (views_of c.in_ok-processors.processors.items) c.in_ok-log.log.places
-          c.requires.serves c.in_ok-processors.ensures.count sizes.nodes c.from.ensures sizes.low c.in_ok-log.ensures c.in_ok-processors.ensures.sound c.in_ok-processors.ensures.first;
+          c.requires.serves c.in_ok-processors.ensures.count sizes.processors.1 c.from.ensures sizes.line.0 c.in_ok-log.ensures c.in_ok-processors.ensures.sound c.in_ok-processors.ensures.first;
     }
 
 pub returns-clause-stands : goal.returns-clause-stands

@@ -1,6 +1,6 @@
 use Rattle.std.proofs.Common.{arith}
-use Rattle.directory.specs.Kept.{letters_in}
-use Rattle.directory.proofs.Sizes.{sizes_of}
+use Rattle.directory.specs.HomeParts.{letters_in}
+use Rattle.machine_config.specs.Sizes.{sizes_of}
 use Rattle.directory.proofs.Starting.{from-none, known-fresh}
 use Rattle.directory.proofs.home.Home.make.Goals as goal
 
@@ -8,7 +8,7 @@ pub invariant_of-result : goal.invariant_of-result
 invariant_of-result c =
     let n = c.args.config.now.processors in
     let sizes = sizes_of c.args.config.now c.requires.allowed in
-    let nodes = sizes.nodes in
+    let nodes = sizes.processors.1 in
     record {
       few = omega (arith, nodes);
       known = known-fresh n c.args.image.now c.of-share.result.line_bytes c.in_ok-records.records c.in_ok-records.ensures.fresh;

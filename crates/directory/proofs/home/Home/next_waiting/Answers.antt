@@ -1,6 +1,6 @@
 use Rattle.std.proofs.Common.{List, sym, ap, subst, ◌∙◌}
-use Rattle.memory_contracts.specs.Said.{Letter, letter_of}
-use Rattle.directory.specs.Kept.{AreFrom, has_line, letters_in}
+use Rattle.memory_contracts.specs.Letters.{Letter, letter_of}
+use Rattle.directory.specs.HomeParts.{AreFrom, has_line, letters_in}
 use Rattle.directory.proofs.Letters.{first_for-line, from-remove}
 use Rattle.directory.proofs.home.Home.next_waiting.Goals as goal
 

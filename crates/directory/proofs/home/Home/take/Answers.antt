@@ -1,11 +1,11 @@
 use Rattle.std.proofs.Common.{ℕ, List, sym, subst, ◌∙◌}
 use Rattle.memory_contracts.specs.Protocol.Lines.{HomeRecord}
 use Rattle.memory_contracts.specs.Protocol.HomeTable.{HomeStep}
-use Rattle.memory_contracts.specs.Said.{Letter, letter_of}
-use Rattle.directory.specs.Kept.{AreFrom, AreKnown, letters_in, records_in}
-use Rattle.directory.specs.Known.{IsKnown}
-use Rattle.directory.specs.Noted.{record_of}
-use Rattle.memory_contracts.specs.Said.{said}
+use Rattle.memory_contracts.specs.Letters.{Letter, letter_of}
+use Rattle.directory.specs.HomeParts.{AreFrom, AreKnown, letters_in, records_in}
+use Rattle.directory.specs.Bounds.{IsKnown}
+use Rattle.directory.specs.Meanings.{record_of}
+use Rattle.memory_contracts.specs.Letters.{said}
 use Rattle.directory.proofs.Letters.{from-push_if}
 use Rattle.directory.proofs.Within.{IsWithin, known-with, takes-within}
 use Rattle.directory.proofs.home.Home.take.Goals as goal

@@ -1,7 +1,7 @@
 use Rattle.std.proofs.Common.{◌≡◌, ℕ, ◌≤◌, ◌++◌, [], append-nil, sym, ap, subst, ◌∙◌, arith}
 use Rattle.directory.specs.Homes.{posts}
-use Rattle.directory.specs.Kept.{posts_in}
-use Rattle.directory.specs.Noted.{sent_of, word_of}
+use Rattle.directory.specs.HomeParts.{posts_in}
+use Rattle.directory.specs.Meanings.{sent_of, word_of}
 use Rattle.directory.specs.declared.step.Sent.{Sent}
 use Rattle.directory.proofs.Sending.{one-is-below, posts-none, posts-one}
 use Rattle.directory.proofs.outgoing.Outgoing.send.Goals as goal

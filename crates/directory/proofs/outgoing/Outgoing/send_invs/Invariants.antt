@@ -2,7 +2,7 @@ use Rattle.std.proofs.Common.{◌≡◌, ◌+◌, ◌≤◌, ◌++◌, length}
 use Rattle.memory_contracts.specs.Protocol.HomeTable.{to_each}
 use Rattle.memory_contracts.specs.Protocol.Messages.{Inv}
 use Rattle.directory.specs.Homes.{posts}
-use Rattle.directory.specs.Kept.{posts_in}
+use Rattle.directory.specs.HomeParts.{posts_in}
 use Rattle.directory.specs.NodeSets.{set_of}
 use Rattle.directory.proofs.outgoing.Outgoing.send_invs.Given as goal
 

@@ -1,4 +1,4 @@
-use Rattle.directory.specs.Noted.{record_of}
+use Rattle.directory.specs.Meanings.{record_of}
 use Rattle.directory.proofs.Added.{AreMore-added, IsAdded, there-added}
 use Rattle.directory.proofs.share.Share.add_line.Goals as goal
 

@@ -1,6 +1,6 @@
 use Rattle.std.proofs.Common.{◌≡◌, ℕ, ◌%◌, ◌<◌, ◌≤◌, true}
 use Rattle.directory.specs.Fresh.{AreMore}
-use Rattle.directory.specs.Kept.{has_line}
+use Rattle.directory.specs.HomeParts.{has_line}
 use Rattle.directory.proofs.share.Share.add_lines.Given as goal
 
 abbrev pub invariant-loop-number : goal.invariant-loop-number

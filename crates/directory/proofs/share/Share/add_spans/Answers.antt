@@ -1,7 +1,7 @@
 use Rattle.std.proofs.Common.{arith}
 use Rattle.elf64_load.specs.Layout.{spans}
 use Rattle.elf64_load.specs.declared.span.Span.{Span}
-use Rattle.directory.proofs.Lists.{any-at}
+use Rattle.list_facts.specs.Tests.{any-at}
 use Rattle.directory.proofs.share.Share.add_spans.Goals as goal
 
 -- what the index past the end reads

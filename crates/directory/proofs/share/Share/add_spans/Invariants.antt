@@ -2,7 +2,7 @@ use Rattle.std.proofs.Common.{◌≡◌, ℕ, ◌/◌, ◌%◌, ◌<◌, true, g
 use Rattle.elf64_load.specs.Layout.{spans}
 use Rattle.elf64_load.specs.declared.span.Span.{Span}
 use Rattle.directory.specs.Fresh.{AreMore}
-use Rattle.directory.specs.Kept.{has_line}
+use Rattle.directory.specs.HomeParts.{has_line}
 use Rattle.directory.proofs.share.Share.add_spans.Given as goal
 
 abbrev pub invariant-loop-span : goal.invariant-loop-span

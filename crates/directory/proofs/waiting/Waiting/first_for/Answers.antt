@@ -1,8 +1,8 @@
 use Rattle.std.proofs.Common.{◌==◌, sym, ◌∙◌, ap}
 use Rattle.std.specs.List.{position}
 use Rattle.memory_contracts.specs.declared.message.Message.{Message}
-use Rattle.memory_contracts.specs.Said.{Letter, letter_of}
-use Rattle.directory.proofs.Lists.{position-map}
+use Rattle.memory_contracts.specs.Letters.{Letter, letter_of}
+use Rattle.list_facts.specs.Tests.{position-map}
 use Rattle.directory.proofs.waiting.Waiting.first_for.Goals as goal
 
 pub returns-clause-first : goal.returns-clause-first

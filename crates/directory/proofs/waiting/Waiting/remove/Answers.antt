@@ -1,6 +1,6 @@
 use Rattle.std.proofs.Common.{map, ap, ◌∙◌}
-use Rattle.memory_contracts.specs.Said.{letter_of}
-use Rattle.directory.proofs.Lists.{map-remove}
+use Rattle.memory_contracts.specs.Letters.{letter_of}
+use Rattle.list_facts.specs.Places.{map-remove}
 use Rattle.directory.proofs.waiting.Waiting.remove.Goals as goal
 
 pub returns-clause-rest : goal.returns-clause-rest

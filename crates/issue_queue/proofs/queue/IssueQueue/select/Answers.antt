@@ -1,5 +1,5 @@
 use Rattle.std.proofs.Common.{◌≡◌, ℕ, ◌+◌, Some, length, arith, sym, ap, ◌∙◌, subst, set}
-use Rattle.issue_queue.specs.declared.units.Unit.{Unit}
+use Rattle.rsim_base.specs.declared.processor.Unit.{Unit}
 use Rattle.issue_queue.specs.Queues.{QueueView, Selects, free_divider, takes_unit}
 use Rattle.issue_queue.specs.Views.{view_of}
 use Rattle.issue_queue.proofs.Selects.{selects_by, with_held}

@@ -1,5 +1,5 @@
 use Rattle.std.proofs.Common.{◌≡◌, ℕ, ◌+◌, ◌%◌, ◌<◌, ◌&&◌, nat_le, ap, ◌∙◌, arith}
-use Rattle.places.specs.Sets.{has, place_at}
+use Rattle.ring_set.specs.Sets.{has, place_at}
 use Rattle.issue_queue.specs.Tables.{held_of}
 use Rattle.issue_queue.proofs.Entries.{entries-cut}
 use Rattle.issue_queue.proofs.table.Table.cut_after.Goals as goal

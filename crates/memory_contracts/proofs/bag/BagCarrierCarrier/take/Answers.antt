@@ -5,7 +5,7 @@ use Rattle.memory_contracts.specs.BagCarriers.{bag_of}
 use Rattle.memory_contracts.specs.Carrier.{Flight, next_for}
 use Rattle.memory_contracts.specs.Packets.{AreInRooms, flight_of, flights_of}
 use Rattle.memory_contracts.specs.declared.packet.Packet.{Packet}
-use Rattle.memory_contracts.proofs.Carriers.{map-remove}
+use Rattle.list_facts.specs.Places.{map-remove}
 use Rattle.memory_contracts.proofs.InRooms.{counted-there, in_rooms-taken, source-there}
 use Rattle.memory_contracts.proofs.Taking.{stands, takes-one}
 use Rattle.memory_contracts.proofs.bag.BagCarrierCarrier.take.Goals as goal

@@ -5,10 +5,11 @@ use Rattle.std.proofs.lemmas.List.Elements.{All-nil}
 use Rattle.elf64_load.specs.Image.{ImageView, holds, in_one_stack, is_mapped}
 use Rattle.elf64_load.specs.Layout.{spans}
 use Rattle.elf64_load.specs.declared.span.Span.{Span}
-use Rattle.memory_contracts.specs.Kept.{mapped_in}
+use Rattle.machine_config.specs.Sizes.{line_doublewords, sizes_of}
+use Rattle.memory_contracts.specs.FlatLayout.{mapped_in}
 use Rattle.memory_contracts.specs.Parts.{has_doubleword, has_line, owner_in, wishes_of}
 use Rattle.memory_contracts.specs.declared.wishes.Wanted.{Wanted}
-use Rattle.memory_contracts.proofs.Sizes.{line-doubleword, sizes_of}
+use Rattle.memory_contracts.proofs.Sizes.{line-doubleword}
 use Rattle.memory_contracts.proofs.Starting.{bytes-start, is_at-none}
 use Rattle.memory_contracts.proofs.flat.FlatStore.make.Goals as goal
 
@@ -19,7 +20,7 @@ mapped_in-spans image order copy same is a =
 
 pub make_places-requires : goal.make_places-requires
 make_places-requires c =
-    let low = (sizes_of c.args.config.now c.requires).low in
+    let low = (sizes_of c.args.config.now c.requires).line.0 in
     omega (arith, low, c.from-line_bytes.ensures)
 
 pub invariant_of-result : goal.invariant_of-result
@@ -27,9 +28,9 @@ invariant_of-result c =
     let sizes = sizes_of c.args.config.now c.requires in
     let line_bytes = c.from-line_bytes.result in
     let line : line_bytes ≡ c.args.config.now.line = c.from-line_bytes.ensures in
-    let low = sizes.low in
-    let nodes = sizes.nodes in
-    let doublewords = sizes.doublewords in
+    let low = sizes.line.0 in
+    let nodes = sizes.processors.1 in
+    let doublewords = line_doublewords c.args.config.now sizes in
     let image = c.args.image.now in
     let memory = c.in_ok-memory.memory in
     let owners = c.in_ok-memory.owners in

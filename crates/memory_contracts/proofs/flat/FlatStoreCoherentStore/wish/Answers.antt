@@ -4,7 +4,7 @@ use Rattle.std.proofs.lemmas.List.{length-map}
 use Rattle.std.proofs.lemmas.List.Elements.{All-append}
 use Rattle.memory_contracts.specs.Store.{StoreView, Wish}
 use Rattle.memory_contracts.specs.Flat.{store_of}
-use Rattle.memory_contracts.specs.Kept.{mapped_in}
+use Rattle.memory_contracts.specs.FlatLayout.{mapped_in}
 use Rattle.memory_contracts.specs.FlatStores.{flat_of}
 use Rattle.memory_contracts.specs.Parts.{byte_in, has_line, owner_in, wanted_in, wish_of, wishes_of}
 use Rattle.memory_contracts.specs.declared.wishes.Wanted.{Wanted}

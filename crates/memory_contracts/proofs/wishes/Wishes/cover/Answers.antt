@@ -3,7 +3,7 @@ use Rattle.std.proofs.lemmas.Grind.{common_steps}
 use Rattle.std.specs.List.{list_any}
 use Rattle.memory_contracts.specs.Store.{covers}
 use Rattle.memory_contracts.specs.Parts.{wanted_in, wish_of}
-use Rattle.memory_contracts.proofs.Lists.{any-map}
+use Rattle.list_facts.specs.Tests.{any-map}
 use Rattle.memory_contracts.proofs.wishes.Wishes.cover.Goals as goal
 
 pub returns : goal.returns

@@ -1,6 +1,6 @@
 use Rattle.std.proofs.Common.{◌≡◌, length}
 use Rattle.cache_levels.specs.Sound.{AreSound}
-use Rattle.node_memory.specs.Noted.{coming_in}
+use Rattle.node_memory.specs.NodeParts.{coming_in}
 use Rattle.node_memory.specs.Starting.{arrive}
 use Rattle.node_memory.proofs.coming.Coming.arrive.Given as goal
 

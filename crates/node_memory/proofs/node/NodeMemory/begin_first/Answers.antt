@@ -3,7 +3,7 @@ use Rattle.std.proofs.lemmas.List.{length-drop}
 use Rattle.memory_contracts.specs.Store.{Wish, most_wishes}
 use Rattle.node_memory.specs.Nodes.{Coming}
 use Rattle.node_memory.specs.NodeViews.{node_of}
-use Rattle.node_memory.specs.Noted.{coming_in, wishes_in}
+use Rattle.node_memory.specs.NodeParts.{coming_in, wishes_in}
 use Rattle.node_memory.specs.Sound.{are_rising}
 use Rattle.node_memory.proofs.Fetched.{rising-push}
 use Rattle.node_memory.proofs.Fits.{sound-waiting}

@@ -2,7 +2,7 @@ use Rattle.std.proofs.Common.{◌≡◌, true, List, sym, subst, ◌∙◌}
 use Rattle.cache_levels.specs.Levels.{LevelsView}
 use Rattle.node_memory.specs.Nodes.{Coming}
 use Rattle.node_memory.specs.NodeViews.{node_of}
-use Rattle.node_memory.specs.Noted.{coming_in}
+use Rattle.node_memory.specs.NodeParts.{coming_in}
 use Rattle.node_memory.specs.Sound.{are_rising}
 use Rattle.node_memory.proofs.Fetched.{arrive-rising}
 use Rattle.node_memory.proofs.Below.{CacheLaws}

@@ -1,7 +1,7 @@
 use Rattle.std.proofs.Common.{List, ◌≤◌, length, sym, subst}
 use Rattle.memory_contracts.specs.Store.{Wish, most_wishes}
 use Rattle.node_memory.specs.NodeViews.{node_of}
-use Rattle.node_memory.specs.Noted.{wishes_in}
+use Rattle.node_memory.specs.NodeParts.{wishes_in}
 use Rattle.node_memory.proofs.Fits.{sound-waiting}
 use Rattle.node_memory.proofs.Wishing.{uncovered-few}
 use Rattle.node_memory.proofs.node.NodeMemory.drop_covered.Goals as goal

@@ -6,7 +6,7 @@ use Rattle.memory_contracts.specs.Protocol.Awaited.{is_leaving}
 use Rattle.miss_registers.specs.Misses.{registers_full}
 use Rattle.node_memory.specs.Nodes.{awaits, copy_of}
 use Rattle.node_memory.specs.NodeViews.{node_of}
-use Rattle.node_memory.specs.Noted.{mail_of}
+use Rattle.node_memory.specs.NodeParts.{mail_of}
 use Rattle.node_memory.proofs.Held.{waits-not}
 use Rattle.node_memory.proofs.node.NodeMemory.has_to_wait.Goals as goal
 use Rattle.node_memory.proofs.node.NodeMemory.has_to_wait.Goals.{then-is_busy, else-is_busy}

@@ -1,6 +1,6 @@
 use Rattle.std.proofs.Common.{◌≡◌, map, sym, ap, subst, ◌∙◌}
 use Rattle.node_memory.specs.Nodes.{empty_node}
-use Rattle.node_memory.specs.Noted.{mail_of, node_with}
+use Rattle.node_memory.specs.NodeParts.{mail_of, node_with}
 use Rattle.node_memory.specs.Sound.{IsSound}
 use Rattle.node_memory.proofs.Empty.{sound-empty}
 use Rattle.node_memory.proofs.node.NodeMemory.make.Goals as goal

@@ -1,10 +1,10 @@
 use Rattle.std.proofs.Common.{length, ap, ◌∙◌, arith, length-append}
 use Rattle.std.proofs.lemmas.Bool.{ltb-true}
 use Rattle.std.proofs.lemmas.List.{length-map}
-use Rattle.memory_contracts.specs.Said.{letter_of}
+use Rattle.memory_contracts.specs.Letters.{letter_of}
 use Rattle.node_memory.specs.Nodes.{most_mails}
 use Rattle.node_memory.specs.NodeViews.{node_of}
-use Rattle.node_memory.specs.Noted.{mail_of, mails_in}
+use Rattle.node_memory.specs.NodeParts.{mail_of, mails_in}
 use Rattle.node_memory.specs.Rows.{change_by, levels_after, misses_after}
 use Rattle.node_memory.specs.declared.table.Change.{Change}
 use Rattle.node_memory.proofs.Below.{CacheLaws}

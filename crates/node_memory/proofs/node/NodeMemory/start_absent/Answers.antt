@@ -4,7 +4,7 @@ use Rattle.cache_levels.specs.declared.levels.Evicted.{Evicted}
 use Rattle.memory_contracts.specs.Parts.{wish_of}
 use Rattle.miss_registers.specs.Misses.{with_register}
 use Rattle.node_memory.specs.NodeViews.{node_of}
-use Rattle.node_memory.specs.Noted.{mail_of, mails_in}
+use Rattle.node_memory.specs.NodeParts.{mail_of, mails_in}
 use Rattle.node_memory.specs.Starting.{Begun, slots_with, starts_absent}
 use Rattle.node_memory.specs.declared.outbox.Post.{Post}
 use Rattle.node_memory.specs.declared.word.Word.TheVariants.{Get}

@@ -2,7 +2,7 @@ use Rattle.std.proofs.Common.{length, sym, ap, ◌∙◌, arith, length-append}
 use Rattle.std.proofs.lemmas.List.{length-map}
 use Rattle.memory_contracts.specs.Parts.{wish_of}
 use Rattle.node_memory.specs.NodeViews.{node_of}
-use Rattle.node_memory.specs.Noted.{mail_of, mails_in}
+use Rattle.node_memory.specs.NodeParts.{mail_of, mails_in}
 use Rattle.node_memory.proofs.Beginning.{MayBegin, begin-shared, places-for, sound-shared}
 use Rattle.node_memory.proofs.Below.{CacheLaws}
 use Rattle.node_memory.proofs.Held.{copies_of, held-copy}

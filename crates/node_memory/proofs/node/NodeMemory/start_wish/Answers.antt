@@ -2,7 +2,8 @@ use Rattle.std.proofs.Common.{◌<◌, List, length, sym, ap, subst, ◌∙◌}
 use Rattle.node_memory.specs.Nodes.{Coming, NodeView}
 use Rattle.node_memory.specs.NodeViews.{node_of}
 use Rattle.node_memory.specs.Sound.{AreBefore}
-use Rattle.node_memory.proofs.Fetched.{arrive-before, arrive-few}
+use Rattle.node_memory.specs.Fetched.{arrive-before}
+use Rattle.node_memory.proofs.Fetched.{arrive-few}
 use Rattle.node_memory.proofs.node.NodeMemory.start_wish.Goals as goal
 
 pub begin_first-requires-clause-later : goal.begin_first-requires-clause-later

@@ -1,5 +1,5 @@
 use Rattle.std.proofs.Common.{◌≡◌, length}
-use Rattle.node_memory.specs.Noted.{wishes_in}
+use Rattle.node_memory.specs.NodeParts.{wishes_in}
 use Rattle.node_memory.specs.Starting.{uncovered}
 use Rattle.node_memory.proofs.wish_list.WishList.drop_covered.Given as goal
 

@@ -7,4 +7,4 @@ pub invariant_of-result : goal.invariant_of-result
 invariant_of-result c = AreInside-first c.args.extra _ _ _ c.requires c.first_registers.ensures (search rules) (search rules)
 
 pub returns-clause-value : goal.returns-clause-value
-returns-clause-value c = view_of_first c.args.extra c.args.image.now _ c.in_ok-map_err.field-0 _ c.first_registers.ensures (search rules) (search rules)
+returns-clause-value c = view_of_first c.args.extra c.args.state.now _ c.in_ok-map_err.field-0 _ c.first_registers.ensures (search rules) (search rules)

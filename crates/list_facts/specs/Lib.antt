@@ -1,0 +1,5 @@
+pub mod Filters
+pub mod Options
+pub mod Places
+pub mod Rising
+pub mod Tests

@@ -1,6 +1,0 @@
-use Rattle.std.proofs.Common.{◌<◌, All}
-use Rattle.memory_queue.specs.declared.queued.Queued.{Queued}
-use Rattle.memory_queue.proofs.tests.push_all.Given as goal
-
-abbrev pub invariant-loop-seq : goal.invariant-loop-seq
-invariant-loop-seq l = All (λ (x : Queued). x.seq < l.seq) l.queue.accesses

@@ -1,7 +1,0 @@
-use Rattle.places.specs.Sets.{has}
-use Rattle.places.proofs.Bits.{test_and}
-use Rattle.places.proofs.set.Places.and.Goals as goal
-
-pub returns : goal.returns
-unfolding has
-returns c = λ j. test_and c.args.self.0 c.args.other.0 j

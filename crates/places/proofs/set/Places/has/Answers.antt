@@ -1,8 +1,0 @@
-use Rattle.std.proofs.Common.{◌==◌, ap}
-use Rattle.std.proofs.lemmas.Nat.Bits.{shr_and_one}
-use Rattle.places.specs.Sets.{has}
-use Rattle.places.proofs.set.Places.has.Goals as goal
-
-pub returns : goal.returns
-unfolding has
-returns c = ap (λ x. x == 1) (shr_and_one c.args.self.0 c.args.place)

@@ -1,8 +1,0 @@
-//! Sets of the places of a ring of 128, one bit each.
-#![tactic(auto)]
-
-mod set;
-#[cfg(test)]
-mod tests;
-
-pub use set::{PLACES, Places};

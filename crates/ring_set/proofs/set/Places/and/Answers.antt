@@ -1,0 +1,7 @@
+use Rattle.ring_set.specs.Sets.{has}
+use Rattle.ring_set.proofs.Bits.{test_and}
+use Rattle.ring_set.proofs.set.Places.and.Goals as goal
+
+pub returns : goal.returns
+unfolding has
+returns c = λ j. test_and c.args.self.0 c.args.other.0 j

@@ -1,0 +1,6 @@
+//! Sets of the places of a ring of 128, one bit each.
+#![tactic(auto)]
+
+mod set;
+
+pub use set::{PLACES, Places};

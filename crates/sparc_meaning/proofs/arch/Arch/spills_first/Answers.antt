@@ -1,0 +1,7 @@
+-- An instruction spills first where its effect on the windows asks for that.
+use Rattle.std.proofs.Common.{sym}
+use Rattle.sparc_meaning.proofs.Telling.{spills_asked}
+use Rattle.sparc_meaning.proofs.arch.Arch.spills_first.Goals as goal
+
+pub returns-clause-value : goal.returns-clause-value
+returns-clause-value c = rw (c.must_spill.ensures.value, c.window_effect.ensures, c.window.ensures) (sym (spills_asked c.args.i.now.op c.args.self.now))
