@@ -1,5 +1,5 @@
 -- Where an element stands once a list has lost some or has one more.
-use Rattle.std.proofs.Common.{◌≡◌, ℕ, zero, suc, ◌+◌, ◌⊎◌, List, [], ◌∷◌, ◌++◌, length, take, drop, slice_get, Some, inl, inr, refl, zero-add, arith}
+use Rattle.std.proofs.Common.{◌≡◌, ℕ, zero, suc, ◌+◌, ◌⊎◌, List, [], ◌∷◌, ◌++◌, length, take, drop, slice_get, slice_set, Some, ap, inl, inr, refl, zero-add, arith}
 
 module _ {X : Type 0} where
   -- what is taken stood at the same place
@@ -21,3 +21,11 @@ module _ {X : Type 0} where
   push_stands [] y (suc i) x at = absurd cc
   push_stands (z ∷ xs) y zero x at = inl at
   push_stands (z ∷ xs) y (suc i) x at = elim (push_stands xs y i x at) [ inl before ↦ inl before | inr last ↦ inr (omega (arith, last.0), last.1) ]
+
+  -- an element stood there before, or is the one that was set there
+  pub set_stands : (xs : List X) (k : ℕ) (y : X) (i : ℕ) (x : X) → slice_get (slice_set xs k y) i ≡ Some x → (slice_get xs i ≡ Some x) ⊎ ((i ≡ k) × (y ≡ x))
+  set_stands [] k y i x at = inl at
+  set_stands (z ∷ xs) zero y zero x at = inr (refl, cc)
+  set_stands (z ∷ xs) zero y (suc i) x at = inl at
+  set_stands (z ∷ xs) (suc k) y zero x at = inl at
+  set_stands (z ∷ xs) (suc k) y (suc i) x at = elim (set_stands xs k y i x at) [ inl before ↦ inl before | inr here ↦ inr (ap (λ n. suc n) here.0, here.1) ]

@@ -1,5 +1,5 @@
 -- The entries in flight, as a list.
-use Rattle.std.specs.Prelude.{◌≡◌, ℕ, ◌-◌, nat_lt, ◌∷◌, ◌++◌, List, [], length, take, slice_get, Bool, false, if◌then◌else◌, Option, None, Result, Ok, Err}
+use Rattle.std.specs.Prelude.{◌≡◌, ℕ, ◌+◌, ◌-◌, nat_lt, ◌∷◌, ◌++◌, List, [], length, take, slice_get, Bool, false, if◌then◌else◌, Option, None, Some, Result, Ok, Err}
 use Rattle.std.specs.Option.{option_map_or}
 use Rattle.active_list.specs.declared.flight.Flight.{Flight}
 
@@ -36,3 +36,7 @@ abbrev pub PopsOf : ℕ → ListView → Option Flight → ListView → Type 0
 PopsOf seq old result new =
     (result ≡ (if is_after seq old.entries then youngest old.entries else None))
     × (new ≡ (if is_after seq old.entries then record old { entries = take (length old.entries - 1) old.entries } else old))
+
+-- entry k has the number first + k
+abbrev pub AreNumbered : ℕ → List Flight → Type 0
+AreNumbered first entries = (k : ℕ) (f : Flight) → slice_get entries k ≡ Some f → f.seq ≡ first + k

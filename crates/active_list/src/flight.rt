@@ -1,8 +1,9 @@
 //! An instruction, or a micro-step of one, that is in flight.
 
 use order_axioms::Fences;
-use rsim_base::{Addr, Pair, PhysReg, Renamed, Window};
+use rsim_base::{Pair, PhysReg, Renamed, Window};
 use sparc_decode::Instr;
+use sparc_meaning::Computed;
 
 /// How far an entry is.
 #[derive(Clone, Copy, Debug, PartialEq, Eq)]
@@ -11,7 +12,7 @@ pub enum Phase {
     Waiting,
     /// A unit has it.
     Issued,
-    /// Its result is known, or its address if it is an access.
+    /// What its operands compute is known.
     Finished,
 }
 
@@ -34,16 +35,15 @@ pub struct Flight {
     /// The registers of its operands, in the order of `Sources`: a, b, c, the condition codes, and Y.
     pub sources: [Option<PhysReg>; 5],
     pub phase: Phase,
-    /// The address of an access, once it is known.
-    pub addr: Option<Addr>,
-    /// The result, once it is known.
-    pub value: Option<u64>,
+    /// What its operands compute, once that is known: the trap that it makes, the address of an access, the next pair, and all
+    /// else but what it loads. Of an access the operands of its address decide it.
+    pub done: Option<Computed>,
+    /// The bytes that a load or an atomic has loaded, once it has.
+    pub loaded: Option<u64>,
     /// The cycle from which the result is ready for others.
     pub ready: Option<u64>,
     /// Whether its access has its place in the order.
     pub settled: bool,
-    /// The number of the trap that it makes.
-    pub trap: Option<u16>,
     /// The fences before it in the program.
     pub fences: Fences,
     /// Its number among the accesses of the processor, if it is one.

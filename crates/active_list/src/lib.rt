@@ -6,5 +6,5 @@ mod laws;
 mod list;
 
 pub use flight::{Flight, Phase};
-pub use laws::youngest_are_behind;
+pub use laws::{numbers_have_no_gaps, youngest_are_behind};
 pub use list::ActiveList;

@@ -1,8 +1,8 @@
 // The entries in flight, the oldest first.
-ghost use Rattle.std.specs.Prelude.{◌≡◌, [], IfOk, drop, slice_get, option_copied};
+ghost use Rattle.std.specs.Prelude.{◌≡◌, [], IfOk, drop, length, slice_get, option_copied};
 ghost use Rattle.std.specs.Option.{option_copied_mut};
 ghost use Rattle.std.specs.Borrow.{sem};
-ghost use Rattle.active_list.specs.Lists.{PushesOf, PopsOf};
+ghost use Rattle.active_list.specs.Lists.{PushesOf, PopsOf, has_place as spec_has_place};
 
 use crate::flight::Flight;
 use circular_buffer::HeapCircularBuffer;
@@ -18,11 +18,14 @@ pub struct ActiveList {
 }
 
 impl Model for ActiveList {
+    ghost use Rattle.std.specs.Prelude.{◌<◌, ◌^◌};
     ghost use Rattle.active_list.specs.Lists.{ListView};
 
     ghost Value = { ListView };
 
     ghost view = { λ l. record { entries = l.entries.items; size = l.entries.capacity } };
+
+    ghost invariant = { λ l. l.entries.capacity < 2 ^ 32 };
 }
 
 impl ActiveList {
@@ -38,6 +41,20 @@ impl ActiveList {
         let made = HeapCircularBuffer::with_capacity(alloc, size as usize);
         let entries = made.map_err(|_| NoMemory)?;
         Ok(ActiveList { entries })
+    }
+
+    /// How many entries there are.
+    pub fn len(&self) -> u32
+        ensures { result ≡ length self.now.entries }
+    {
+        self.entries.len() as u32
+    }
+
+    /// Whether one more may join.
+    pub fn has_place(&self) -> bool
+        ensures { result ≡ spec_has_place self.now }
+    {
+        self.entries.len() < self.entries.capacity()
     }
 
     /// An entry joins as the youngest. Where the list has as many as it may have, it is handed back and nothing changes.

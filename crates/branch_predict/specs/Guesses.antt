@@ -1,5 +1,5 @@
 -- What is guessed of where a program goes on, and what is learnt.
-use Rattle.std.specs.Prelude.{ℕ, pos, int_lt, ◌+◌, ◌-◌, ◌/◌, ◌%◌, ◌^◌, ◌==◌, nat_lt, nat_le, ◌&&◌, ◌||◌, min, Bool, true, false, if◌then◌else◌, List, [], ◌∷◌, ◌++◌, length, take, filter, replicate, slice_get, slice_index, slice_set, Option, None, Some}
+use Rattle.std.specs.Prelude.{ℕ, pos, int_lt, ◌+◌, ◌-◌, ◌/◌, ◌%◌, ◌^◌, ◌==◌, nat_lt, nat_le, not, ◌&&◌, ◌||◌, min, Bool, true, false, if◌then◌else◌, List, [], ◌∷◌, ◌++◌, length, take, filter, replicate, slice_get, slice_index, slice_set, Option, None, Some}
 use Rattle.circular_buffer.specs.Buffer.{keep_last}
 use Rattle.machine_config.specs.declared.config.Config.{Config}
 use Rattle.machine_config.specs.declared.config.PredictorKind.{PredictorKind}
@@ -94,6 +94,16 @@ abbrev pub guessed : ℕ → Instr → PredictorView → Guessed
 guessed pc i v = guessed_by i.op pc i v
 
 -- ---- learning
+
+-- which way a branch went is learnt where it may go either way: not of conditions 8 and 0, as above
+abbrev pub learns_by : Op → Instr → Bool
+learns_by Bicc i = not (i.cond == 8 || i.cond == 0)
+learns_by BPcc i = not (i.cond == 8 || i.cond == 0)
+learns_by BPr i = true
+learns_by op i = false
+
+abbrev pub learns : Instr → Bool
+learns i = learns_by i.op i
 
 -- one up or down, within 0 to 3
 abbrev pub moved : Bool → ℕ → ℕ

@@ -6,4 +6,4 @@ mod counters;
 mod predictor;
 mod return_stack;
 
-pub use predictor::{Guess, Predictor};
+pub use predictor::{Guess, Predictor, learns};

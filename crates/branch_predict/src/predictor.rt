@@ -1,7 +1,7 @@
 // The predictor of a core.
 ghost use Rattle.std.specs.Prelude.{◌≡◌, ◌-◌, ◌^◌, ◌<◌, IfOk, if◌then◌else◌};
 ghost use Rattle.machine_config.specs.Allowed.{IsAllowed};
-ghost use Rattle.branch_predict.specs.Guesses.{first_predictor, guessed, goes, hinted, jumps, learned, on_codes, returns, without_pushes};
+ghost use Rattle.branch_predict.specs.Guesses.{first_predictor, guessed, goes, hinted, jumps, learned, learns as spec_learns, on_codes, returns, without_pushes};
 
 use crate::counters::Counters;
 use crate::return_stack::ReturnStack;
@@ -96,7 +96,7 @@ impl Predictor {
         }
     }
 
-    /// Learns which way the conditional branch at `pc` went: its counter goes up or down by one, within 0 to 3. Where
+    /// Learns which way the branch at `pc` went that may go either way (`learns`): its counter goes up or down by one, within 0 to 3. Where
     /// branches are guessed by the instruction alone, nothing changes.
     pub fn learn(&mut self, pc: u64, taken: bool)
         ensures { self.new ≡ learned pc taken self.old }
@@ -168,6 +168,17 @@ impl Predictor {
             Some(address) => Guess::Target(address),
             None => Guess::Unknown,
         }
+    }
+}
+
+/// Whether it is learnt which way this instruction went: of each branch that its condition may let go either way.
+pub fn learns(i: &Instr) -> bool
+    ensures { result ≡ spec_learns i.now }
+{
+    match i.op {
+        Op::Bicc | Op::BPcc => i.cond != ALWAYS && i.cond != NEVER,
+        Op::BPr => true,
+        _ => false,
     }
 }
 

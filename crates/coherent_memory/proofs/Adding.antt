@@ -2,14 +2,14 @@
 use Rattle.std.proofs.Common.{◌≡◌, ℕ, Bool, true, false, cond, ◌&&◌, ◌==◌, List, [], ◌∷◌, ◌++◌, Some, drop, refl, sym, ap, ◌∙◌, subst, true≢false}
 use Rattle.std.specs.List.{flat_map, remove, slice_get}
 use Rattle.std.proofs.lemmas.Bool.{eqb-true, eq-eqb, eqb-false, false_from_ne_true}
-use Rattle.memory_contracts.specs.Carrier.{Flight, sends}
+use Rattle.memory_contracts.specs.Carrier.{Flight, after_send, class_of, is_full, sends}
 use Rattle.memory_contracts.specs.Protocol.Messages as Says
 use Rattle.memory_contracts.specs.Letters.{Letter, Mail, said}
 use Rattle.memory_contracts.specs.declared.message.Message.{Message}
 use Rattle.directory.specs.Homes.{HomeView, Post}
 use Rattle.node_memory.specs.Nodes.{NodeView, awaits, copy_of}
 use Rattle.coherent_memory.specs.Systems.{System, between, home_at, home_number, if_about, of_flight, of_letter, of_mail, of_post, party}
-use Rattle.coherent_memory.specs.Turns.{is_refused, posted, with_carrier, with_home, with_node, without_flight, without_mail, without_post}
+use Rattle.coherent_memory.specs.Turns.{with_carrier, with_home, with_node, without_flight, without_mail, without_post}
 use Rattle.coherent_memory.proofs.Alike.{AreReordered, AreReordered-refl, more_before, more_behind}
 use Rattle.coherent_memory.proofs.Lines.{HasMore}
 use Rattle.coherent_memory.proofs.Places.{eqb-sym, joined_last, removed, with_at-both}
@@ -64,7 +64,7 @@ flight_more n i f s e = record {
 }
 
 -- one that was sent
-pub posted_more : (n p to : ℕ) (m : Message) (s : System) → is_refused p m s ≡ false → HasMore n m.line.0 (party (sends s.carrier p to m)) (said m) s (posted p to m s)
+pub posted_more : (n p to : ℕ) (m : Message) (s : System) → is_full s.carrier p (class_of m.kind) ≡ false → HasMore n m.line.0 (party (sends s.carrier p to m)) (said m) s (with_carrier (after_send s.carrier p to m) s)
 posted_more n p to m s room =
     subst (λ b. HasMore n m.line.0 (party sent) (said m) s (with_carrier (cond b s.carrier (record (s.carrier) { flights = s.carrier.flights ++ sent ∷ [] })) s))
     (sym room)

@@ -53,18 +53,18 @@ module _ (laws : StepLaws) (n p now : ℕ) (below : p < n) where
 
   posts-keep : (s t : System) → IsFine n s → HomeSends p now s t → HasKept n s t
   posts-keep _ _ fine (ends s last) = kept-refl n s fine
-  posts-keep _ _ fine (refused s mail m next says packed) = kept-refl n s fine
-  posts-keep _ _ fine (sends s t mail m next says free rest) =
-      let u = without_post p (posted p mail.to m s) in
-      let first = laws.post n p now mail m s fine below next says free in
+  posts-keep _ _ fine (refused s mail next packed) = kept-refl n s fine
+  posts-keep _ _ fine (sends s t mail next free rest) =
+      let u = without_post p (posted p mail s) in
+      let first = laws.post n p now mail s fine below next free in
       kept-trans n s u t first (posts-keep u t first.fine rest)
 
   mails-keep : (s t : System) → IsFine n s → NodeSends p s t → HasKept n s t
   mails-keep _ _ fine (ends s last) = kept-refl n s fine
-  mails-keep _ _ fine (refused s mail m next says packed) = kept-refl n s fine
-  mails-keep _ _ fine (sends s t mail m next says free rest) =
-      let u = without_mail p (posted p mail.to m s) in
-      let first = laws.mail n p mail m s fine below next says free in
+  mails-keep _ _ fine (refused s mail next packed) = kept-refl n s fine
+  mails-keep _ _ fine (sends s t mail next free rest) =
+      let u = without_mail p (posted p mail s) in
+      let first = laws.mail n p mail s fine below next free in
       kept-trans n s u t first (mails-keep u t first.fine rest)
 
 pub turn-keeps : StepLaws → TurnKeeps

@@ -22,7 +22,9 @@ mod Messages
 mod Nearness
 mod PartRows
 pub mod Places
+pub mod Once
 mod Posting
+mod Saying
 pub mod Quiet
 pub mod Receiving
 pub mod Rights
@@ -30,6 +32,7 @@ pub mod Rooms
 pub mod Rows
 mod Serving
 pub mod Sides
+mod Smallness
 mod Soundness
 mod Starting
 pub mod Staying

@@ -22,7 +22,7 @@ use Rattle.node_memory.specs.Sound.{AreBefore}
 use Rattle.coherent_memory.specs.FabricViews.{system_of}
 use Rattle.coherent_memory.specs.SystemInvariants.{HasKept, IsFine}
 use Rattle.coherent_memory.specs.NodeRows.{no_node, node_count, nodes_in}
-use Rattle.coherent_memory.specs.Stores.{Shape, store_of}
+use Rattle.coherent_memory.specs.Stores.{Shape, store_of, byte_at}
 use Rattle.coherent_memory.specs.Systems.{System}
 use Rattle.coherent_memory.specs.Turns.{HasTicked, Turns, before, next, with_node}
 use Rattle.coherent_memory.specs.MemoryInvariants.{IsWhole}
@@ -46,12 +46,13 @@ nothing-there = record {
 pub nothing-past : (nodes : Nodes) (p : ℕ) → node_count nodes ≤ p → IsNothing (nodes_in nodes p)
 nothing-past nodes p beyond = subst IsNothing (sym (ap (λ o. option_map_or node_of o no_node) (slice_get_past nodes.list.items p beyond))) nothing-there
 
-pub fabric-sound : {C : Type 0} {b : _} → HeldFollows → OwnedIsAlone → (meaning : C → CarrierView) (f : Fabric C b) (shape : Shape) (ticks : ℕ) → shape.nodes ≡ f.count → node_count f.nodes ≡ f.count → ∥ IsFine f.count (system_of meaning f) ∥₁ → store.IsSound (store_of shape ticks (system_of meaning f))
-fabric-sound held alone meaning f shape ticks nodes count fine =
+pub fabric-sound : {C : Type 0} {b : _} → HeldFollows → OwnedIsAlone → (meaning : C → CarrierView) (f : Fabric C b) (shape : Shape) (ticks : ℕ) → shape.nodes ≡ f.count → node_count f.nodes ≡ f.count → ∥ IsFine f.count (system_of meaning f) ∥₁ → ((a : ℕ) → byte_at shape (system_of meaning f) a < 256) → store.IsSound (store_of shape ticks (system_of meaning f))
+fabric-sound held alone meaning f shape ticks nodes count fine small =
     is_sound held alone shape ticks (system_of meaning f)
     (λ p below. nodes-sound f.nodes p (omega (arith, below, nodes, count)))
     (λ p beyond. nothing-past f.nodes p (omega (arith, beyond, nodes, count)))
     (subst (λ (n : ℕ). ∥ IsFine n (system_of meaning f) ∥₁) (sym nodes) fine)
+    small
 
 -- ---- what is whole
 
@@ -85,7 +86,7 @@ turns-last now P Q lasts s _ _ _ (next p t u lost more turns turn) each q below 
         subst (λ (x : ℕ). Q (u.nodes x)) (sym (eqb-true q p e)) here
     by lower false e = subst Q (sym (turn-others p q (λ same. grind (arith, nat_tests, same, e)) now t u more turn)) (lower (grind (arith, nat_tests, below, e)))
 
-pub whole-tick : (shape : Shape) (ticks : ℕ) (s t : System) (gone : List (Node × Line)) → HasTicked shape.nodes ticks s t gone → ∥ HasKept shape.nodes s t ∥₁ → IsWhole shape ticks s → IsWhole shape (ticks + 1) t
+pub whole-tick : {Moves : CarrierView → CarrierView → Type 0} (shape : Shape) (ticks : ℕ) (s t : System) (gone : List (Node × Line)) → HasTicked Moves shape.nodes ticks s t gone → ∥ HasKept shape.nodes s t ∥₁ → IsWhole shape ticks s → IsWhole shape (ticks + 1) t
 whole-tick shape ticks s t gone ticked kept whole = record {
   size = whole.size;
   bytes = λ q below.

@@ -74,31 +74,31 @@ posts-shorter-of latency now [] mail is = absurd cc
 posts-shorter-of latency now (post ∷ posts) mail is = omega arith
 
 pub posts-shorter : (p now : ℕ) (s t : System) → PostsOne p now s t true → length (t.homes p).outgoing < length (s.homes p).outgoing
-posts-shorter p now s t (sent mail m next says free is) =
+posts-shorter p now s t (sent mail next free is) =
     let posts = (s.homes p).outgoing in
     let new : (t.homes p).outgoing ≡ drop 1 posts = ap (λ (u : System). (u.homes p).outgoing) is ∙ ap (λ (h : HomeView). h.outgoing) (with_at-same s.homes p (record (s.homes p) { outgoing = drop 1 posts })) in
     subst (λ (ps : List Post). length ps < length posts) (sym new) (posts-shorter-of (s.homes p).latency now posts mail next)
 
 pub posts-then : (p now : ℕ) (s t w : System) → PostsOne p now s t true → HomeSends p now t w → HomeSends p now s w
-posts-then p now s t w (sent mail m next says free is) rest = Turns.sends s w mail m next says free (subst (λ (u : System). HomeSends p now u w) is rest)
+posts-then p now s t w (sent mail next free is) rest = Turns.sends s w mail next free (subst (λ (u : System). HomeSends p now u w) is rest)
 
 pub posts-end : (p now : ℕ) (s t : System) → PostsOne p now s t false → HomeSends p now s t
 posts-end p now s t (none next is) = subst (λ (u : System). HomeSends p now s u) (sym is) (Turns.ends s next)
-posts-end p now s t (refused mail m next says full is) = subst (λ (u : System). HomeSends p now s u) (sym is) (Turns.refused s mail m next says full)
+posts-end p now s t (refused mail next full is) = subst (λ (u : System). HomeSends p now s u) (sym is) (Turns.refused s mail next full)
 
 mails-shorter-of : (mails : List Mail) (mail : Mail) → slice_get mails 0 ≡ Some mail → length (drop 1 mails) < length mails
 mails-shorter-of [] mail is = absurd cc
 mails-shorter-of (first ∷ mails) mail is = omega arith
 
 pub mails-shorter : (p : ℕ) (s t : System) → MailsOne p s t true → length (t.nodes p).outbox < length (s.nodes p).outbox
-mails-shorter p s t (sent mail m next says free is) =
+mails-shorter p s t (sent mail next free is) =
     let mails = (s.nodes p).outbox in
     let new : (t.nodes p).outbox ≡ drop 1 mails = ap (λ (u : System). (u.nodes p).outbox) is ∙ ap (λ (v : NodeView). v.outbox) (with_at-same s.nodes p (without_first_mail (s.nodes p))) in
     subst (λ (ms : List Mail). length ms < length mails) (sym new) (mails-shorter-of mails mail next)
 
 pub mails-then : (p : ℕ) (s t w : System) → MailsOne p s t true → NodeSends p t w → NodeSends p s w
-mails-then p s t w (sent mail m next says free is) rest = Turns.sends s w mail m next says free (subst (λ (u : System). NodeSends p u w) is rest)
+mails-then p s t w (sent mail next free is) rest = Turns.sends s w mail next free (subst (λ (u : System). NodeSends p u w) is rest)
 
 pub mails-end : (p : ℕ) (s t : System) → MailsOne p s t false → NodeSends p s t
 mails-end p s t (none next is) = subst (λ (u : System). NodeSends p s u) (sym is) (Turns.ends s next)
-mails-end p s t (refused mail m next says full is) = subst (λ (u : System). NodeSends p s u) (sym is) (Turns.refused s mail m next says full)
+mails-end p s t (refused mail next full is) = subst (λ (u : System). NodeSends p s u) (sym is) (Turns.refused s mail next full)

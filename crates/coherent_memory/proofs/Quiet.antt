@@ -5,7 +5,7 @@ use Rattle.std.proofs.lemmas.Bool.{cond_both, ne_eqb}
 use Rattle.rsim_base.specs.declared.memory.Line.{Line}
 use Rattle.rsim_base.specs.declared.memory.Node.{Node}
 use Rattle.memory_contracts.specs.Carrier.{CarrierView, after_send}
-use Rattle.memory_contracts.specs.Letters.{Letter, letter_of}
+use Rattle.memory_contracts.specs.Letters.{Letter, letter_of, message_of}
 use Rattle.memory_contracts.specs.Store.{Wish}
 use Rattle.cache_sets.specs.Caches.{reserved_slot, room_for, with_reserved}
 use Rattle.cache_sets.specs.Ways.{Way}
@@ -43,14 +43,14 @@ module _ (now : ℕ) (P Q : NodeView → Type 0) (lasts : Lasts now P Q) (p : �
 
   at_home : (s t : System) → HomeSends p now s t → Q (s.nodes p) → Q (t.nodes p)
   at_home _ _ (ends s none) is = is
-  at_home _ _ (refused s mail m next says packed) is = is
-  at_home _ _ (sends s t mail m next says free rest) is = at_home (without_post p (posted p mail.to m s)) t rest is
+  at_home _ _ (refused s mail next packed) is = is
+  at_home _ _ (sends s t mail next free rest) is = at_home (without_post p (posted p mail s)) t rest is
 
   at_node : (s t : System) → NodeSends p s t → Q (s.nodes p) → Q (t.nodes p)
   at_node _ _ (ends s none) is = is
-  at_node _ _ (refused s mail m next says packed) is = is
-  at_node _ _ (sends s t mail m next says free rest) is =
-      at_node (without_mail p (posted p mail.to m s)) t rest (subst Q (sym (with_at-same s.nodes p (without_first_mail (s.nodes p)))) (lasts.sent (s.nodes p) is))
+  at_node _ _ (refused s mail next packed) is = is
+  at_node _ _ (sends s t mail next free rest) is =
+      at_node (without_mail p (posted p mail s)) t rest (subst Q (sym (with_at-same s.nodes p (without_first_mail (s.nodes p)))) (lasts.sent (s.nodes p) is))
 
   pub turn-node : (s t : System) (gone : List (Node × Line)) → Turn p now s t gone → P (s.nodes p) → Q (t.nodes p)
   turn-node s t gone turn is = at_node turn.sent t turn.node (at_home turn.taken turn.sent turn.home (at_receive (begun p now s) turn.taken turn.told turn.receives (at_begin s is)))
@@ -67,14 +67,14 @@ module _ (p : ℕ) (q : ℕ) (other : q ≢ p) where
 
   home-others : (now : ℕ) (s t : System) → HomeSends p now s t → t.nodes q ≡ s.nodes q
   home-others now _ _ (ends s none) = refl
-  home-others now _ _ (refused s mail m next says packed) = refl
-  home-others now _ _ (sends s t mail m next says free rest) = home-others now (without_post p (posted p mail.to m s)) t rest
+  home-others now _ _ (refused s mail next packed) = refl
+  home-others now _ _ (sends s t mail next free rest) = home-others now (without_post p (posted p mail s)) t rest
 
   node-others : (s t : System) → NodeSends p s t → t.nodes q ≡ s.nodes q
   node-others _ _ (ends s none) = refl
-  node-others _ _ (refused s mail m next says packed) = refl
-  node-others _ _ (sends s t mail m next says free rest) =
-      node-others (without_mail p (posted p mail.to m s)) t rest ∙ with_at-other s.nodes p (without_first_mail (s.nodes p)) q (ne_eqb q p other)
+  node-others _ _ (refused s mail next packed) = refl
+  node-others _ _ (sends s t mail next free rest) =
+      node-others (without_mail p (posted p mail s)) t rest ∙ with_at-other s.nodes p (without_first_mail (s.nodes p)) q (ne_eqb q p other)
 
   pub turn-others : (now : ℕ) (s t : System) (gone : List (Node × Line)) → Turn p now s t gone → t.nodes q ≡ s.nodes q
   turn-others now s t gone turn =
@@ -95,13 +95,13 @@ receive-ticks p now s t _ (by_node i f free next stands to kind same) = ap (λ (
 
 home-ticks : (p now : ℕ) (s t : System) → HomeSends p now s t → t.carrier.ticks ≡ s.carrier.ticks
 home-ticks p now _ _ (ends s none) = refl
-home-ticks p now _ _ (refused s mail m next says packed) = refl
-home-ticks p now _ _ (sends s t mail m next says free rest) = home-ticks p now (without_post p (posted p mail.to m s)) t rest ∙ send-ticks s.carrier p mail.to m
+home-ticks p now _ _ (refused s mail next packed) = refl
+home-ticks p now _ _ (sends s t mail next free rest) = home-ticks p now (without_post p (posted p mail s)) t rest ∙ send-ticks s.carrier p mail.to (message_of p mail)
 
 node-ticks : (p : ℕ) (s t : System) → NodeSends p s t → t.carrier.ticks ≡ s.carrier.ticks
 node-ticks p _ _ (ends s none) = refl
-node-ticks p _ _ (refused s mail m next says packed) = refl
-node-ticks p _ _ (sends s t mail m next says free rest) = node-ticks p (without_mail p (posted p mail.to m s)) t rest ∙ send-ticks s.carrier p mail.to m
+node-ticks p _ _ (refused s mail next packed) = refl
+node-ticks p _ _ (sends s t mail next free rest) = node-ticks p (without_mail p (posted p mail s)) t rest ∙ send-ticks s.carrier p mail.to (message_of p mail)
 
 pub turn-ticks : (p now : ℕ) (s t : System) (gone : List (Node × Line)) → Turn p now s t gone → t.carrier.ticks ≡ s.carrier.ticks
 turn-ticks p now s t gone turn = node-ticks p turn.sent t turn.node ∙ (home-ticks p now turn.taken turn.sent turn.home ∙ receive-ticks p now (begun p now s) turn.taken turn.told turn.receives)

@@ -2,7 +2,7 @@
 use Rattle.std.proofs.Common.{◌≡◌, ℕ, ◌<◌, Bool, true, false, cond, All, [], ◌∷◌, ◌++◌, refl, sym, ap, ◌∙◌, subst}
 use Rattle.std.proofs.lemmas.List.Elements.{All-push}
 use Rattle.std.proofs.lemmas.Nat.{mod_below}
-use Rattle.memory_contracts.specs.Carrier.{CarrierView, sends}
+use Rattle.memory_contracts.specs.Carrier.{CarrierView, after_send, class_of, is_full, sends}
 use Rattle.memory_contracts.specs.Protocol.Events.{is_to_home, is_to_node}
 use Rattle.memory_contracts.specs.Protocol.Messages as Says
 use Rattle.memory_contracts.specs.Protocol.Messages.{GetS, GetM, Put, Inv, Recall, Grant, PutAck, InvAck, RecallAck, Done}
@@ -12,7 +12,7 @@ use Rattle.directory.specs.Homes.{HomeView}
 use Rattle.node_memory.specs.Nodes.{NodeView}
 use Rattle.coherent_memory.specs.SystemInvariants.{GoesRight, IsRight, IsRightFlight, IsRightHome, IsRightNode}
 use Rattle.coherent_memory.specs.Systems.{System, home_number, is_kept}
-use Rattle.coherent_memory.specs.Turns.{is_refused, posted, with_carrier, with_home, with_node}
+use Rattle.coherent_memory.specs.Turns.{with_carrier, with_home, with_node}
 use Rattle.coherent_memory.proofs.Places.{with_at-both}
 
 pub right_with_home : {n : ℕ} {kept : ℕ → Bool} {s : System} (p : ℕ) (h : HomeView) → IsRight n kept s → (p < n → IsRightHome n kept p h) → IsRight n kept (with_home p h s)
@@ -86,10 +86,10 @@ right_to_home {n = n} v p to m some kept at_home below kind = record {
 }
 
 pub right_posted : {n : ℕ} {kept : ℕ → Bool} {s : System} (p to : ℕ) (m : Message)
-    → is_refused p m s ≡ false
+    → is_full s.carrier p (class_of m.kind) ≡ false
     → IsRight n kept s
     → IsRightFlight n kept (sends s.carrier p to m)
-    → IsRight n kept (posted p to m s)
+    → IsRight n kept (with_carrier (after_send s.carrier p to m) s)
 right_posted {n = n} {kept = kept} {s = s} p to m room right sent =
     subst (λ b. IsRight n kept (with_carrier (cond b s.carrier (record (s.carrier) { flights = s.carrier.flights ++ sends s.carrier p to m ∷ [] })) s))
     (sym room)

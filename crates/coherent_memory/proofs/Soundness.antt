@@ -16,7 +16,7 @@ use Rattle.node_memory.specs.Nodes.{NodeView, copy_of, kept_as}
 use Rattle.node_memory.specs.Sound as node
 use Rattle.coherent_memory.specs.SystemInvariants.{IsFine}
 use Rattle.coherent_memory.specs.Lost.{holds}
-use Rattle.coherent_memory.specs.Stores.{Shape, store_of}
+use Rattle.coherent_memory.specs.Stores.{Shape, store_of, byte_at}
 use Rattle.coherent_memory.specs.Systems.{System, line_of}
 use Rattle.coherent_memory.proofs.Values.{line_of-copy}
 
@@ -69,10 +69,18 @@ module _ (law : HeldFollows) (alone : OwnedIsAlone) (shape : Shape) (ticks : ℕ
       (λ (beyond : shape.nodes ≤ p). absurd (clash _ own ((past p beyond).owned l)))
       (cases_lt p shape.nodes)
 
-  pub is_sound : ∥ IsFine shape.nodes s ∥₁ → IsSound (store_of shape ticks s)
-  is_sound fine = record {
+  within : (p l : ℕ) → holds s p l ≡ true → p < shape.nodes
+  within p l held =
+      ⊎_elim (λ (below : p < shape.nodes). below)
+      (λ (beyond : shape.nodes ≤ p). absurd (clash _ held ((past p beyond).held l)))
+      (cases_lt p shape.nodes)
+
+  pub is_sound : ∥ IsFine shape.nodes s ∥₁ → ((a : ℕ) → byte_at shape s a < 256) → IsSound (store_of shape ticks s)
+  is_sound fine small = record {
+    within = within;
     near = near_held;
     owned = λ p l e. owned-held (s.nodes p) l e;
     alone = λ p q l own held. ∥∥₁_elim fine (ℕ_set q p) (λ (f : IsFine shape.nodes s). alone-fine f p q l own held);
     few = few;
+    small = small;
   }

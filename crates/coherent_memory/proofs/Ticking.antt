@@ -16,6 +16,7 @@ use Rattle.coherent_memory.specs.Systems.{System}
 use Rattle.coherent_memory.specs.Turns.{HasTicked, Turns, before, next}
 use Rattle.coherent_memory.proofs.Meanings.{bytes-stay}
 use Rattle.coherent_memory.proofs.Quiet.{Lasts, turn-node, turn-others, turn-ticks}
+use Rattle.memory_contracts.specs.Carrier.{CarrierView}
 
 -- ---- wishes
 
@@ -67,8 +68,8 @@ turns-left leave now s _ _ _ (next p t u lost more turns turn) q =
 
 -- ---- the store
 
-pub tick-store : WishesLeave → (shape : Shape) (ticks now : ℕ) (s t : System) (gone : List (Node × Line)) →
-    HasTicked shape.nodes now s t gone → ∥ HasKept shape.nodes s t ∥₁ → ∥ AreGone s t gone ∥₁ → Ticks (store_of shape ticks s) (store_of shape (ticks + 1) t) gone
+pub tick-store : {Moves : CarrierView → CarrierView → Type 0} → WishesLeave → (shape : Shape) (ticks now : ℕ) (s t : System) (gone : List (Node × Line)) →
+    HasTicked Moves shape.nodes now s t gone → ∥ HasKept shape.nodes s t ∥₁ → ∥ AreGone s t gone ∥₁ → Ticks (store_of shape ticks s) (store_of shape (ticks + 1) t) gone
 tick-store leave shape ticks now s t gone ticked kept told = record {
   same = λ i. record (store_of shape (ticks + 1) t) { bytes = bytes-stay shape s t kept i };
   lost = record {

@@ -25,8 +25,8 @@ use Rattle.coherent_memory.proofs.Places.{with_at-other, with_at-same}
 
 home-sends : (p now : ℕ) (s t : System) → HomeSends p now s t → t.nodes ≡ s.nodes
 home-sends p now _ _ (ends s none) = refl
-home-sends p now _ _ (refused s mail m next says is_full) = refl
-home-sends p now _ _ (sends s t mail m next says free rest) = home-sends p now (without_post p (posted p mail.to m s)) t rest
+home-sends p now _ _ (refused s mail next is_full) = refl
+home-sends p now _ _ (sends s t mail next free rest) = home-sends p now (without_post p (posted p mail s)) t rest
 
 -- other nodes stay, and all copies
 record KeepsCopies (p : ℕ) (s t : System) : Type 0 where
@@ -45,10 +45,10 @@ keeps-mail p s = record {
 
 node-sends : (p : ℕ) (s t : System) → NodeSends p s t → KeepsCopies p s t
 node-sends p _ _ (ends s none) = record { others = λ q other. refl; copies = λ q l. refl }
-node-sends p _ _ (refused s mail m next says is_full) = record { others = λ q other. refl; copies = λ q l. refl }
-node-sends p _ _ (sends s t mail m next says free rest) =
-    let first = keeps-mail p (posted p mail.to m s) in
-    let more = node-sends p (without_mail p (posted p mail.to m s)) t rest in
+node-sends p _ _ (refused s mail next is_full) = record { others = λ q other. refl; copies = λ q l. refl }
+node-sends p _ _ (sends s t mail next free rest) =
+    let first = keeps-mail p (posted p mail s) in
+    let more = node-sends p (without_mail p (posted p mail s)) t rest in
     record { others = λ q other. more.others q other ∙ first.others q other; copies = λ q l. more.copies q l ∙ first.copies q l }
 
 -- ---- a node begins

@@ -7,7 +7,6 @@ use Rattle.memory_contracts.specs.Carrier.{CarrierTicks, CarrierView, Flight}
 use Rattle.memory_contracts.specs.Protocol.Events.{is_to_home}
 use Rattle.memory_contracts.specs.Letters.{Mail, letter_of, said}
 use Rattle.memory_contracts.specs.Store.{Wish}
-use Rattle.memory_contracts.specs.declared.message.Message.{Message}
 use Rattle.cache_levels.specs.Bytes.{written_at}
 use Rattle.cache_levels.specs.Levels.{near, owned}
 use Rattle.directory.specs.Homes.{HomeView, Serves, home_after}
@@ -17,7 +16,7 @@ use Rattle.node_memory.specs.Sides.{side_of}
 use Rattle.node_memory.specs.Sound.{IsSound}
 use Rattle.coherent_memory.specs.SystemInvariants.{HasKept, IsFine}
 use Rattle.coherent_memory.specs.Systems.{System, content, is_kept}
-use Rattle.coherent_memory.specs.Turns.{IsSaying, Turn, begun, is_refused, next_mail, next_post, node_takes, posted, with_carrier, with_home, with_node, without_flight, without_mail, without_post}
+use Rattle.coherent_memory.specs.Turns.{Turn, begun, is_refused, next_mail, next_post, node_takes, posted, with_carrier, with_home, with_node, without_flight, without_mail, without_post}
 
 -- ---- messages
 
@@ -67,23 +66,21 @@ GrantsAwaited =
 -- messages go on their way
 abbrev pub PostKeeps : Type 0
 PostKeeps =
-    (n p now : ℕ) (mail : Mail) (m : Message) (s : System)
+    (n p now : ℕ) (mail : Mail) (s : System)
     → IsFine n s
     → p < n
     → next_post p now s ≡ Some mail
-    → IsSaying p mail m
-    → is_refused p m s ≡ false
-    → HasKept n s (without_post p (posted p mail.to m s))
+    → is_refused p mail s ≡ false
+    → HasKept n s (without_post p (posted p mail s))
 
 abbrev pub MailKeeps : Type 0
 MailKeeps =
-    (n p : ℕ) (mail : Mail) (m : Message) (s : System)
+    (n p : ℕ) (mail : Mail) (s : System)
     → IsFine n s
     → p < n
     → next_mail p s ≡ Some mail
-    → IsSaying p mail m
-    → is_refused p m s ≡ false
-    → HasKept n s (without_mail p (posted p mail.to m s))
+    → is_refused p mail s ≡ false
+    → HasKept n s (without_mail p (posted p mail s))
 
 abbrev pub CarryingKeeps : Type 0
 CarryingKeeps = (n : ℕ) (carrier : CarrierView) (s : System) → IsFine n s → CarrierTicks s.carrier carrier → HasKept n s (with_carrier carrier s)

@@ -3,6 +3,7 @@ pub mod Fabrics
 pub mod SystemInvariants
 pub mod First
 pub mod HomeRows
+pub mod Determined
 pub mod Laws
 pub mod Lost
 pub mod Memories

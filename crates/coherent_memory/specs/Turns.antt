@@ -5,7 +5,7 @@ use Rattle.rsim_base.specs.declared.memory.Line.{Line}
 use Rattle.rsim_base.specs.declared.memory.Node.{Node}
 use Rattle.memory_contracts.specs.Carrier.{CarrierTicks, CarrierView, Flight, after_send, class_of, is_full, next_for}
 use Rattle.memory_contracts.specs.Protocol.Events.{is_to_home}
-use Rattle.memory_contracts.specs.Letters.{Mail, letter_of, said, told}
+use Rattle.memory_contracts.specs.Letters.{Mail, kind_of, letter_of, message_of, said}
 use Rattle.memory_contracts.specs.Updates.{with_at}
 use Rattle.memory_contracts.specs.declared.message.Message.{Message}
 use Rattle.directory.specs.Homes.{HomeView, Serves, first_outgoing, has_room, home_after, mail_of}
@@ -63,17 +63,12 @@ pub data Receives (p now : ℕ) (s t : System) : List (Node × Line) → Type 0 
 
 -- ---- what is to be sent
 
--- a message that says this, of node p
-pub record IsSaying (p : ℕ) (mail : Mail) (m : Message) : Type 0 where
-  pub node : Node
-  pub says : told (node, m) ≡ mail
-  pub from : m.from.0 ≡ p
+-- the carrier has no room for what node p says
+abbrev pub is_refused : ℕ → Mail → System → Bool
+is_refused p mail s = is_full s.carrier p (class_of (kind_of mail.message))
 
-abbrev pub is_refused : ℕ → Message → System → Bool
-is_refused p m s = is_full s.carrier p (class_of m.kind)
-
-abbrev pub posted : ℕ → ℕ → Message → System → System
-posted p to m s = with_carrier (after_send s.carrier p to m) s
+abbrev pub posted : ℕ → Mail → System → System
+posted p mail s = with_carrier (after_send s.carrier p mail.to (message_of p mail)) s
 
 abbrev pub without_post : ℕ → System → System
 without_post p s = with_home p (record (s.homes p) { outgoing = drop 1 (s.homes p).outgoing }) s
@@ -91,13 +86,13 @@ next_mail p s = slice_get (s.nodes p).outbox 0
 -- the messages go, the oldest first, up to one that the carrier refuses, or that may not go yet
 pub data HomeSends (p now : ℕ) : System → System → Type 0 where
   ends : (s : System) → next_post p now s ≡ None → HomeSends p now s s
-  refused : (s : System) (mail : Mail) (m : Message) → next_post p now s ≡ Some mail → IsSaying p mail m → is_refused p m s ≡ true → HomeSends p now s s
-  sends : (s t : System) (mail : Mail) (m : Message) → next_post p now s ≡ Some mail → IsSaying p mail m → is_refused p m s ≡ false → HomeSends p now (without_post p (posted p mail.to m s)) t → HomeSends p now s t
+  refused : (s : System) (mail : Mail) → next_post p now s ≡ Some mail → is_refused p mail s ≡ true → HomeSends p now s s
+  sends : (s t : System) (mail : Mail) → next_post p now s ≡ Some mail → is_refused p mail s ≡ false → HomeSends p now (without_post p (posted p mail s)) t → HomeSends p now s t
 
 pub data NodeSends (p : ℕ) : System → System → Type 0 where
   ends : (s : System) → next_mail p s ≡ None → NodeSends p s s
-  refused : (s : System) (mail : Mail) (m : Message) → next_mail p s ≡ Some mail → IsSaying p mail m → is_refused p m s ≡ true → NodeSends p s s
-  sends : (s t : System) (mail : Mail) (m : Message) → next_mail p s ≡ Some mail → IsSaying p mail m → is_refused p m s ≡ false → NodeSends p (without_mail p (posted p mail.to m s)) t → NodeSends p s t
+  refused : (s : System) (mail : Mail) → next_mail p s ≡ Some mail → is_refused p mail s ≡ true → NodeSends p s s
+  sends : (s t : System) (mail : Mail) → next_mail p s ≡ Some mail → is_refused p mail s ≡ false → NodeSends p (without_mail p (posted p mail s)) t → NodeSends p s t
 
 -- ---- the turn of a node, and all turns
 
@@ -116,9 +111,10 @@ pub data Turns (now : ℕ) (s : System) : ℕ → System → List (Node × Line)
   before : Turns now s zero s []
   next : (p : ℕ) (t u : System) (lost more : List (Node × Line)) → Turns now s p t lost → Turn p now t u more → Turns now s (suc p) u (lost ++ more)
 
--- all nodes have had their turns, and the carrier has ticked
-pub record HasTicked (n now : ℕ) (s t : System) (gone : List (Node × Line)) : Type 0 where
+-- All nodes have had their turns, and the carrier has ticked; Moves says what that makes of what is under way.
+pub record HasTicked (Moves : CarrierView → CarrierView → Type 0) (n now : ℕ) (s t : System) (gone : List (Node × Line)) : Type 0 where
   pub turned : System
   pub turns : Turns now s n turned gone
   pub carrier : CarrierTicks turned.carrier t.carrier
+  pub moves : Moves turned.carrier t.carrier
   pub rest : t ≡ with_carrier t.carrier turned

@@ -235,7 +235,7 @@ impl<C: Carrier> Fabric<C> {
     pub fn tick(&mut self, now: u64, lost: &mut LostList)
         requires few { (system_of C.meaning self.old).carrier.ticks < 4294967295 }
         requires later { (q : ℕ) → q < self.old.count → AreBefore now ((system_of C.meaning self.old).nodes q).coming }
-        ensures ticked { HasTicked self.old.count now (system_of C.meaning self.old) (system_of C.meaning self.new) lost.new.items }
+        ensures ticked { HasTicked C.Moves self.old.count now (system_of C.meaning self.old) (system_of C.meaning self.new) lost.new.items }
         ensures gone { ∥ AreGone (system_of C.meaning self.old) (system_of C.meaning self.new) lost.new.items ∥₁ }
         ensures kept { ∥ HasKept self.old.count (system_of C.meaning self.old) (system_of C.meaning self.new) ∥₁ }
         ensures count { self.new.count ≡ self.old.count }

@@ -1,7 +1,7 @@
 // The homes of all nodes.
 ghost use Rattle.std.specs.Prelude.{◌≡◌, ℕ, ◌+◌, ◌<◌, ◌≤◌, drop, length, option_map, true, IfOk, IfSome, OnSome};
 ghost use Rattle.machine_config.specs.Allowed.{IsAllowed};
-ghost use Rattle.memory_contracts.specs.Letters.{letter_of, told};
+ghost use Rattle.memory_contracts.specs.Letters.{letter_of, message_of, told};
 ghost use Rattle.memory_contracts.specs.Updates.{with_at};
 ghost use Rattle.directory.specs.Homes.{HomeView, Serves, first_outgoing, has_room, home_after, mail_of, most_outgoing};
 ghost use Rattle.directory.specs.Start.{IsStart};
@@ -86,7 +86,7 @@ impl Homes {
     pub fn outgoing(&self, p: Node, now: u64) -> Option<(Node, Message)>
         requires { p.0 < home_count self.now }
         ensures oldest { option_map told result ≡ option_map mail_of (first_outgoing (homes_in self.now p.0).latency now (homes_in self.now p.0).outgoing) }
-        ensures from { IfSome result (λ sent. sent.1.from.0 ≡ (homes_in self.now p.0).at) }
+        ensures exactly { IfSome result (λ sent. sent.1 ≡ message_of (homes_in self.now p.0).at (told sent)) }
         ensures there { OnSome result (0 < length (homes_in self.now p.0).outgoing) }
     {
         self.list[p.0 as usize].outgoing(now)

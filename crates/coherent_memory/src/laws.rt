@@ -1,11 +1,12 @@
 //! Laws of the steps of a tick. Their functions do nothing of their own: a law is a contract.
 
+ghost use Rattle.coherent_memory.specs.Determined.{MovesOnce, TicksOnce};
 ghost use Rattle.coherent_memory.specs.Lost.{TurnTells, TurnsTell};
 ghost use Rattle.coherent_memory.specs.Rooms.{RoomStays, ServingGrows, ServingShortens, StartGrows, TakingGrows};
 ghost use Rattle.coherent_memory.specs.Laws.{BeginKeeps, CarryingKeeps, GrantsAwaited, HomeTakesKeeps, MailKeeps, NearAfterRead, NearAfterWrite, NodeTakesKeeps, NothingKeeps, PostKeeps, ServingKeeps, TurnKeeps, WritingKeeps};
 
 use cache_sets::laws as set_laws;
-use memory_contracts::laws as protocol_laws;
+use memory_contracts::{Carrier, laws as protocol_laws};
 use node_memory::laws as node_laws;
 
 /// Every step keeps each line coherent; only a write changes the content of a line, its own.
@@ -61,3 +62,9 @@ pub fn nearness_stays()
     set_laws::lines_are_apart();
     set_laws::look_ups_follow();
 }
+
+/// Where a tick of the carrier has one result, a tick of the whole memory has: every home, every cache with its ways by
+/// recency, every message under way, and the lines that are told to have left.
+pub fn ticks_have_one_result<C: Carrier>()
+    ensures { MovesOnce C.Moves → TicksOnce C.Moves }
+{}

@@ -49,8 +49,7 @@ impl<C: Carrier + Drop> CoherentMemory<C> {
     ) -> Result<CoherentMemory<C>, NoMemory>
         requires allowed { IsAllowed config.now }
         requires carrier { C.meaning carrier ≡ no_flights config.now }
-        ensures start { IfOk result (λ made. IsStart image.now config.now (store_in C.meaning made)) }
-        ensures bytes { IfOk result (λ made. (a : ℕ) → (store_in C.meaning made).bytes a < 256) }
+        ensures { IfOk result (λ made. IsStart image.now config.now (store_in C.meaning made)) }
     {
         protocol_laws::lines_stay_coherent();
         node_laws::tables_follow();
@@ -68,11 +67,21 @@ impl<C: Carrier + Drop> CoherentMemory<C> {
 }
 
 impl<C: Carrier> CoherentStore for CoherentMemory<C> {
-    ghost use Rattle.coherent_memory.specs.Memories.{memory_of, store_in};
-    ghost use Rattle.coherent_memory.specs.Turns.{HasTicked};
-    ghost use Rattle.memory_contracts.specs.Store.{Ticks};
+    ghost use Rattle.std.specs.Prelude.{refl};
+    ghost use Rattle.coherent_memory.specs.Memories.{memory_in, store_in};
+    ghost use Rattle.coherent_memory.specs.Stores.{Memory, MemoryTicks, memory_effects, view_of};
 
     ghost meaning = { λ s. store_in C.meaning s };
+
+    ghost Inside = { Memory };
+
+    ghost inside = { λ s. memory_in C.meaning s };
+
+    ghost view = { view_of };
+
+    ghost effects = { memory_effects };
+
+    ghost Ticked = { MemoryTicks C.Moves };
 
     fn read(&mut self, p: Node, a: Addr, n: Size) -> Option<u64> {
         protocol_laws::lines_stay_coherent();
@@ -105,11 +114,7 @@ impl<C: Carrier> CoherentStore for CoherentMemory<C> {
     }
 
     // A turn of each node, in rising order, and then a tick of the carrier.
-    fn tick(&mut self, lost: &mut LostList)
-        requires few { (store_in C.meaning self.old).ticks < 4294967295 }
-        ensures ticks { Ticks (store_in C.meaning self.old) (store_in C.meaning self.new) lost.new.items }
-        ensures exactly { HasTicked (store_in C.meaning self.old).nodes (store_in C.meaning self.old).ticks (memory_of C.meaning self.old) (memory_of C.meaning self.new) lost.new.items }
-    {
+    fn tick(&mut self, lost: &mut LostList) {
         protocol_laws::lines_stay_coherent();
         node_laws::tables_follow();
         self.fabric.tick(u64::from(self.ticks), lost);
@@ -117,4 +122,6 @@ impl<C: Carrier> CoherentStore for CoherentMemory<C> {
     }
 
     ghost sound = { λ s. s.sound };
+
+    ghost seen = { λ s. refl };
 }

@@ -3,7 +3,7 @@ ghost use Rattle.std.specs.Prelude.{◌≡◌, ℕ, ◌%◌, ◌<◌, ◌++◌, 
 ghost use Rattle.arrayvec.specs.ArrayVec.{array_vec_len};
 ghost use Rattle.rsim_base.specs.Bytes.{count_of};
 ghost use Rattle.machine_config.specs.Allowed.{IsAllowed};
-ghost use Rattle.memory_contracts.specs.Letters.{letter_of, said, told};
+ghost use Rattle.memory_contracts.specs.Letters.{letter_of, message_of, said, told};
 ghost use Rattle.memory_contracts.specs.Updates.{with_at};
 ghost use Rattle.cache_levels.specs.Levels.{near, owned};
 ghost use Rattle.node_memory.specs.Nodes.{after_read, after_wish, after_write, awaits, empty_node, has_room, left_from, line_at, read_of, takes_wish, without_first_mail};
@@ -85,7 +85,7 @@ impl Nodes {
     pub fn outbox(&self, p: Node) -> Option<(Node, Message)>
         requires { p.0 < node_count self.now }
         ensures oldest { option_map told result ≡ slice_get (nodes_in self.now p.0).outbox 0 }
-        ensures from { IfSome result (λ sent. sent.1.from.0 ≡ (nodes_in self.now p.0).at) }
+        ensures exactly { IfSome result (λ sent. sent.1 ≡ message_of (nodes_in self.now p.0).at (told sent)) }
     {
         self.list[p.0 as usize].outbox()
     }

@@ -1,6 +1,7 @@
 //! Each call at its edges, and a script of calls against a plain `Vec`.
 
 use order_axioms::Fences;
+use order_axioms::laws::overlapping_accesses_keep_their_order;
 use rsim_base::{Access, Addr, Kind, Model, Node, Size};
 use std::alloc::AllocFailed;
 use std::test::Fail;
@@ -125,6 +126,7 @@ fn call_both(
 // The script has each call with each of its answers, and the later places of a search some times each.
 #[test]
 fn a_script_answers_as_a_plain_list_does(rt: HostRuntime) -> Result<(), Fail> {
+    overlapping_accesses_keep_their_order();
     let mut buffer = StoreBuffer::make(rt.alloc(), SIZE)?;
     let mut plain = Plain {
         stores: Vec::new(rt.alloc()),
@@ -232,6 +234,107 @@ fn the_search_begins_at_its_place(rt: HostRuntime) -> Result<(), Fail> {
     ];
     for &(from, place) in &cases {
         assert!(rt; buffer.performable(Model::Rc, from) == place, "from {from}");
+    }
+    Ok(())
+}
+
+#[test]
+fn the_youngest_store_gives_what_it_covers(rt: HostRuntime) -> Result<(), Fail> {
+    let mut buffer = StoreBuffer::make(rt.alloc(), 4)?;
+    let none = fences(0, 0, 0, 0);
+    let stores = [
+        (Size::B8, 0x1000, 0x0102_0304_0506_0708),
+        (Size::B2, 0x1002, 0x1314),
+        (Size::B4, 0x2000, 0x2122_2324),
+        (Size::B8, u64::MAX - 3, 0x3132_3334_3536_3738),
+    ];
+    for &(size, addr, value) in &stores {
+        let mut a = access(0, Kind::Store, size, addr);
+        a.stored = value;
+        buffer.push(a, none)?;
+    }
+    for &(size, addr, wanted) in &[
+        (Size::B4, 0x1004, Some((0, Some(0x0506_0708)))),
+        (Size::B1, 0x1001, Some((0, Some(2)))),
+        (Size::B2, 0x1002, Some((1, Some(0x1314)))),
+        (Size::B1, 0x1003, Some((1, Some(0x14)))),
+        (Size::B4, 0x1000, Some((1, None))),
+        (Size::B8, 0x1000, Some((1, None))),
+        (Size::B8, 0x2000, Some((2, None))),
+        (Size::B2, 0x2002, Some((2, Some(0x2324)))),
+        (Size::B2, 0x2004, None),
+        (Size::B1, 0x0fff, None),
+        (Size::B8, 0x0ffc, Some((1, None))),
+        (Size::B4, 0, Some((3, Some(0x3536_3738)))),
+        (Size::B2, u64::MAX, Some((3, Some(0x3435)))),
+        (Size::B8, 0, Some((3, None))),
+    ] {
+        assert!(rt;
+            buffer.meets(Addr(addr), size) == wanted,
+            "{size:?} at {addr:x}"
+        );
+    }
+    Ok(())
+}
+
+#[test]
+fn a_later_access_waits_for_the_stores_that_it_needs(rt: HostRuntime) -> Result<(), Fail> {
+    let mut buffer = StoreBuffer::make(rt.alloc(), 2)?;
+    let none = fences(0, 0, 0, 0);
+    let models = [Model::Sc, Model::Pc, Model::Rc];
+    for m in models {
+        assert!(rt; buffer.lets(m, &store(2, 0x1000), &none), "{m:?}");
+    }
+    push_all(&mut buffer, &[0x1000, 0x2000])?;
+    // which models let it pass the stores
+    for &(kind, addr, f, wanted) in &[
+        (Kind::Load, 0x3000, fences(0, 0, 0, 0), [false, true, true]),
+        (Kind::Load, 0x2000, fences(0, 0, 0, 0), [false, true, true]),
+        (Kind::Load, 0x3000, fences(1, 0, 1, 1), [false, true, true]),
+        (
+            Kind::Load,
+            0x3000,
+            fences(0, 1, 0, 0),
+            [false, false, false],
+        ),
+        (
+            Kind::Store,
+            0x3000,
+            fences(0, 0, 0, 0),
+            [false, false, true],
+        ),
+        (
+            Kind::Store,
+            0x2004,
+            fences(0, 0, 0, 0),
+            [false, false, false],
+        ),
+        (
+            Kind::Store,
+            0x3000,
+            fences(0, 0, 0, 1),
+            [false, false, false],
+        ),
+        (
+            Kind::Atomic,
+            0x3000,
+            fences(0, 0, 0, 0),
+            [false, false, true],
+        ),
+        (
+            Kind::Atomic,
+            0x1000,
+            fences(0, 0, 0, 0),
+            [false, false, false],
+        ),
+    ] {
+        let later = access(2, kind, Size::B8, addr);
+        for (m, lets) in models.into_iter().zip(wanted) {
+            assert!(rt;
+                buffer.lets(m, &later, &f) == lets,
+                "{m:?} {kind:?} {addr:x}"
+            );
+        }
     }
     Ok(())
 }

@@ -1,9 +1,10 @@
 //! Each call at its edges, and a script of calls against a plain `Vec`.
 
-use active_list::{ActiveList, Flight, Phase};
+use active_list::{ActiveList, Flight, Phase, numbers_have_no_gaps, youngest_are_behind};
 use order_axioms::Fences;
 use rsim_base::{ArchReg, Pair, PhysReg, Renamed, Window};
 use sparc_decode::{Instr, Op, Src2};
+use sparc_meaning::{Computed, End};
 use std::alloc::AllocFailed;
 use std::test::Fail;
 
@@ -49,11 +50,10 @@ fn flight(seq: u64) -> Flight {
         mark: 0,
         sources: [Some(PhysReg(1)), Some(PhysReg(2)), None, None, None],
         phase: Phase::Waiting,
-        addr: None,
-        value: None,
+        done: None,
+        loaded: None,
         ready: None,
         settled: false,
-        trap: None,
         fences: Fences {
             ll: 0,
             sl: 0,
@@ -65,13 +65,30 @@ fn flight(seq: u64) -> Flight {
     }
 }
 
+// What that addition computes, where this is the sum.
+fn added(value: u64) -> Computed {
+    Computed {
+        end: End::Running,
+        addr: 0,
+        next: Pair {
+            pc: 0x1004,
+            npc: 0x1008,
+        },
+        taken: false,
+        out: None,
+        value,
+        cc: 0,
+        y: 0,
+    }
+}
+
 // The entry is finished with this value, if it is there.
 fn finish(list: &mut ActiveList, k: u32, value: u64) -> bool {
     let Some(f) = list.at_mut(k) else {
         return false;
     };
     f.phase = Phase::Finished;
-    f.value = Some(value);
+    f.done = Some(added(value));
     true
 }
 
@@ -95,7 +112,7 @@ impl Plain {
             return false;
         };
         f.phase = Phase::Finished;
-        f.value = Some(value);
+        f.done = Some(added(value));
         true
     }
 
@@ -118,6 +135,8 @@ impl Plain {
 fn agree(list: &ActiveList, plain: &[Flight]) -> bool {
     (0..SIZE + 2).all(|k| list.at(k).copied() == plain.get(k as usize).copied())
         && list.head().copied() == plain.first().copied()
+        && list.len() as usize == plain.len()
+        && list.has_place() == (plain.len() < SIZE as usize)
 }
 
 // Makes a call on both, and says whether they answer alike. The call is chosen by the number `mixed`, and `next` is the
@@ -143,6 +162,8 @@ fn call_both(
 // The script has each call with each of its answers ten times or more.
 #[test]
 fn a_script_answers_as_a_plain_list_does(rt: HostRuntime) -> Result<(), Fail> {
+    youngest_are_behind();
+    numbers_have_no_gaps();
     let mut list = ActiveList::make(rt.alloc(), SIZE)?;
     let mut plain = Plain {
         entries: Vec::new(rt.alloc()),
@@ -160,7 +181,7 @@ fn a_script_answers_as_a_plain_list_does(rt: HostRuntime) -> Result<(), Fail> {
 fn a_full_list_hands_the_entry_back(rt: HostRuntime) -> Result<(), Fail> {
     let mut none = ActiveList::make(rt.alloc(), 0)?;
     assert!(rt; none.push(flight(7)) == Err(flight(7)));
-    assert!(rt; none.head().copied() == None);
+    assert!(rt; none.head().copied() == None && none.len() == 0 && !none.has_place());
     let mut list = ActiveList::make(rt.alloc(), 2)?;
     assert!(rt; list.push(flight(7)) == Ok(()));
     assert!(rt; list.push(flight(8)) == Ok(()));
@@ -187,7 +208,7 @@ fn nothing_stands_past_the_end(rt: HostRuntime) -> Result<(), Fail> {
     assert!(rt; finish(&mut list, 1, 40));
     assert!(rt; list.at(0).copied() == Some(flight(7)));
     let second = list.at(1).copied().ok_or("it is there")?;
-    assert!(rt; second.value == Some(40));
+    assert!(rt; second.done == Some(added(40)));
     assert!(rt; second.seq == 8);
     Ok(())
 }

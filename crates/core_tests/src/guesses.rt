@@ -2,7 +2,7 @@
 
 ghost use Rattle.std.specs.Prelude.{◌<◌, length};
 
-use branch_predict::{Guess, Predictor};
+use branch_predict::{Guess, Predictor, learns};
 use machine_config::read;
 use sparc_decode::{Instr, Op, Src2};
 use std::alloc::{AllocError, Global};
@@ -112,6 +112,30 @@ fn static_branches_go_by_the_instruction(rt: HostRuntime) -> Result<(), Fail> {
             assert!(rt; guess(&rt, &mut predictor, PC, i) == *wanted, "row {row}");
             predictor.learn(PC, taken);
         }
+    }
+    Ok(())
+}
+
+#[test]
+fn branches_that_may_go_either_way_are_learnt(rt: HostRuntime) -> Result<(), Fail> {
+    let rows = [
+        (bicc(8, 64), false),
+        (bicc(0, 64), false),
+        (bicc(1, 64), true),
+        (bicc(15, -4), true),
+        (hinted(Op::BPcc, 8, true), false),
+        (hinted(Op::BPcc, 0, true), false),
+        (hinted(Op::BPcc, 9, false), true),
+        // Under the conditions of BPr a register is looked at, also under 0 and 8.
+        (hinted(Op::BPr, 0, false), true),
+        (hinted(Op::BPr, 8, true), true),
+        (instr(Op::Call), false),
+        (jmpl(0, 15), false),
+        (instr(Op::Return), false),
+        (instr(Op::Add), false),
+    ];
+    for (k, (i, want)) in rows.iter().enumerate() {
+        assert!(rt; learns(i) == *want, "row {k}");
     }
     Ok(())
 }

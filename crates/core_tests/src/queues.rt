@@ -3,7 +3,7 @@
 ghost use Rattle.std.specs.Prelude.{◌≡◌, ◌<◌, [], length};
 
 use machine_config::read;
-use memory_queue::MemoryQueue;
+use memory_queue::{MemoryQueue, Queued};
 use order_axioms::{Fences, needs};
 use rsim_base::Kind::{Atomic, Load, Store};
 use rsim_base::Size::{B1, B2, B4, B8};
@@ -99,7 +99,7 @@ fn loads_wait_for_addresses_and_places(rt: HostRuntime) -> Result<(), Fail> {
         assert!(rt; queue.candidate(2) == Some(2));
         assert!(rt; queue.candidate(3) == None);
         if let Some(k) = queue.candidate(0) {
-            queue.bind(k, 5, false);
+            queue.bind(k);
         }
         assert!(rt; queue.candidate(0) == Some(2));
     }
@@ -189,6 +189,102 @@ fn the_youngest_store_decides(rt: HostRuntime) -> Result<(), Fail> {
     Ok(())
 }
 
+// An access before a load: its kind, size and address, whether it has a value, and whether it is performed.
+#[derive(Clone, Copy)]
+struct Earlier(Kind, Size, u64, bool, bool);
+
+// Two accesses, and a load of four bytes at 0x104 behind them.
+fn behind(alloc: Global, first: Earlier, second: Earlier) -> Result<MemoryQueue, Fail> {
+    let joining = [first, second, Earlier(Load, B4, 0x104, false, false)];
+    let kinds = joining.map(|x| (x.0, x.1, NO_FENCES));
+    let mut queue = filled(alloc, b"active_list 4\nmodel rc\nspeculate on\n", &kinds)?;
+    let values = [0x0102_0304_0506_0708, 0x1112_1314_1516_1718, 0];
+    for k in 0..3usize {
+        let Earlier(_, _, a, has_value, performed) = joining[k];
+        queue.address(k as u64, Addr(a));
+        if has_value {
+            queue.store_value(k as u64, values[k]);
+        }
+        if performed {
+            queue.placed(k as u64);
+        }
+    }
+    Ok(queue)
+}
+
+#[test]
+fn a_load_waits_for_the_store_that_it_meets(rt: HostRuntime) -> Result<(), Fail> {
+    let far = Earlier(Store, B8, 0x900, false, false);
+    let (first, second) = (Some(0x0506_0708), Some(0x1516_1718));
+    // whether the load may bind, and what it is given
+    for &(older, younger, binds, given) in &[
+        (far, Earlier(Store, B4, 0x104, false, false), false, None),
+        (far, Earlier(Store, B4, 0x204, false, false), true, None),
+        (far, Earlier(Store, B4, 0x104, true, false), true, second),
+        (far, Earlier(Atomic, B4, 0x104, true, false), false, None),
+        (far, Earlier(Store, B2, 0x104, true, false), false, None),
+        (far, Earlier(Store, B4, 0x106, true, false), false, None),
+        (far, Earlier(Store, B1, 0x107, true, false), false, None),
+        (far, Earlier(Store, B1, 0x108, true, false), true, None),
+        (far, Earlier(Store, B4, 0x104, false, true), true, None),
+        (far, Earlier(Atomic, B4, 0x104, true, true), true, None),
+        (
+            Earlier(Store, B2, 0x104, true, false),
+            Earlier(Store, B8, 0x100, true, false),
+            true,
+            second,
+        ),
+        (
+            Earlier(Store, B8, 0x100, true, false),
+            Earlier(Store, B2, 0x104, true, false),
+            false,
+            None,
+        ),
+        (
+            Earlier(Store, B8, 0x100, true, false),
+            Earlier(Atomic, B4, 0x104, true, true),
+            true,
+            first,
+        ),
+        (
+            Earlier(Store, B4, 0x104, true, false),
+            Earlier(Load, B4, 0x104, false, false),
+            true,
+            first,
+        ),
+    ] {
+        let queue = behind(rt.alloc(), older, younger)?;
+        let wanted = if binds { Some(2) } else { None };
+        assert!(rt; queue.candidate(2) == wanted);
+        assert!(rt; queue.forward(2) == given);
+    }
+    Ok(())
+}
+
+#[test]
+fn the_search_goes_on_past_a_load_that_waits(rt: HostRuntime) -> Result<(), Fail> {
+    let joining = [
+        (Store, B4, NO_FENCES),
+        (Load, B4, NO_FENCES),
+        (Load, B4, NO_FENCES),
+    ];
+    let mut queue = filled(
+        rt.alloc(),
+        b"active_list 4\nmodel rc\nspeculate on\n",
+        &joining,
+    )?;
+    queue.address(0, Addr(0x100));
+    queue.address(1, Addr(0x100));
+    queue.address(2, Addr(0x200));
+    assert!(rt; queue.candidate(0) == Some(2));
+    queue.store_value(0, 7);
+    assert!(rt; queue.candidate(0) == Some(1));
+    assert!(rt; queue.forward(1) == Some(7));
+    queue.bind(1);
+    assert!(rt; queue.candidate(0) == Some(2));
+    Ok(())
+}
+
 #[test]
 fn greater_numbers_are_cut(rt: HostRuntime) -> Result<(), Fail> {
     for &(seq, left) in &[(u64::MAX, 4), (3, 4), (2, 3), (1, 2), (0, 1)] {
@@ -257,7 +353,8 @@ fn bytes_of(x: &Known, a: u64, count: u64) -> Option<u64> {
     Some(value)
 }
 
-fn plain_forward(list: &[Known], k: u32) -> Option<u64> {
+// The place of the youngest store or atomic before a place that is not performed and shares a byte with the access there.
+fn plain_source(list: &[Known], k: u32) -> Option<usize> {
     let load = list.get(k as usize)?;
     let Addr(a) = load.addr?;
     let count = load.size.count();
@@ -265,15 +362,20 @@ fn plain_forward(list: &[Known], k: u32) -> Option<u64> {
         let x = list.get(earlier)?;
         let meets = (0..count).any(|i| x.byte_at(a.wrapping_add(i)).is_some());
         if meets && x.kind != Load && !x.placed {
-            let is_plain = x.kind == Store && x.value.is_some();
-            return if is_plain {
-                bytes_of(x, a, count)
-            } else {
-                None
-            };
+            return Some(earlier);
         }
     }
     None
+}
+
+fn plain_forward(list: &[Known], k: u32) -> Option<u64> {
+    let load = list.get(k as usize)?;
+    let Addr(a) = load.addr?;
+    let x = list.get(plain_source(list, k)?)?;
+    if x.kind != Store || x.value.is_none() {
+        return None;
+    }
+    bytes_of(x, a, load.size.count())
 }
 
 // An access at an address, of which nothing else is of interest.
@@ -313,22 +415,39 @@ fn every_pair_of_sizes_shares_its_bytes(rt: HostRuntime) -> Result<(), Fail> {
     Ok(())
 }
 
-fn may_bind(list: &[Known], k: usize, model: Model, speculates: bool) -> bool {
-    let Some(load) = list.get(k) else {
+fn may_bind(list: &[Known], k: u32, model: Model, speculates: bool) -> bool {
+    let Some(load) = list.get(k as usize) else {
         return false;
     };
     let Some(a) = load.addr else {
         return false;
     };
-    let is_held = list.iter().take(k).any(|x| {
+    let is_held = list.iter().take(k as usize).any(|x| {
         (x.kind != Load && x.addr.is_none())
             || (!speculates && !x.placed && x.is_before(model, a, load))
     });
-    load.kind == Load && !load.bound && !is_held
+    let gives_way = plain_source(list, k).is_none() || plain_forward(list, k).is_some();
+    load.kind == Load && !load.bound && !is_held && gives_way
 }
 
 fn plain_candidate(list: &[Known], from: u32, model: Model, speculates: bool) -> Option<u32> {
-    (from..8).find(|k| may_bind(list, *k as usize, model, speculates))
+    (from..8).find(|k| may_bind(list, *k, model, speculates))
+}
+
+fn may_settle(list: &[Known], k: u32, model: Model) -> bool {
+    let Some(load) = list.get(k as usize) else {
+        return false;
+    };
+    let Some(a) = load.addr else {
+        return false;
+    };
+    let mut earlier = list.iter().take(k as usize);
+    let is_held = earlier.any(|x| !x.placed && x.is_before(model, a, load));
+    load.kind == Load && load.bound && !load.placed && !is_held
+}
+
+fn plain_settles(list: &[Known], from: u32, model: Model) -> Option<u32> {
+    (from..8).find(|k| may_settle(list, *k, model))
 }
 
 // Some other number for each one.
@@ -417,23 +536,74 @@ fn call_both(queue: &mut MemoryQueue, list: &mut Vec<Known>, x: u64) -> bool {
 }
 
 // Binds the first load that may bind on both.
-fn bind_both(queue: &mut MemoryQueue, list: &mut Vec<Known>, v: u64) {
+fn bind_both(queue: &mut MemoryQueue, list: &mut Vec<Known>) {
     let Some(k) = queue.candidate(0) else {
         return;
     };
-    queue.bind(k, v, false);
+    queue.bind(k);
     if let Some(known) = list.get_mut(k as usize) {
         known.bound = true;
-        known.value = Some(v);
     }
+}
+
+// Whether both know the same of the access at a place.
+fn is_same(queue: &MemoryQueue, list: &[Known], k: u32) -> bool {
+    let wanted = list.get(k as usize).map(|x| Queued {
+        seq: x.seq,
+        kind: x.kind,
+        size: x.size,
+        fences: x.fences,
+        addr: x.addr,
+        value: x.value,
+        placed: x.placed,
+        bound: x.bound,
+    });
+    queue.at(k).copied() == wanted && queue.number(k) == wanted.map(|x| x.seq)
 }
 
 // Whether both answer alike at each place, and one past the end.
 fn agree(queue: &MemoryQueue, list: &[Known], model: Model, speculates: bool) -> bool {
     (0..6).all(|k| {
-        queue.forward(k) == plain_forward(list, k)
+        is_same(queue, list, k)
+            && queue.source(k).map(|j| j as usize) == plain_source(list, k)
+            && queue.forward(k) == plain_forward(list, k)
             && queue.candidate(k) == plain_candidate(list, k, model, speculates)
+            && queue.settles(k) == plain_settles(list, k, model)
     })
+}
+
+#[test]
+fn bound_loads_settle_behind_what_they_need(rt: HostRuntime) -> Result<(), Fail> {
+    let joining = [
+        (Store, B4, NO_FENCES),
+        (Load, B4, NO_FENCES),
+        (Load, B4, NO_FENCES),
+    ];
+    // the first that settles, and the first from place 2 on: at first, and once the store and then a load has its place
+    let wanted = [
+        [(None, None), (Some(1), None), (Some(2), Some(2))],
+        [(Some(1), None), (Some(1), None), (Some(2), Some(2))],
+        [(Some(1), Some(2)), (Some(1), Some(2)), (Some(2), Some(2))],
+    ];
+    for ((settings, _, _), answers) in MACHINES.into_iter().zip(wanted) {
+        let mut queue = filled(rt.alloc(), settings, &joining)?;
+        for seq in 0..3u64 {
+            queue.address(seq, Addr(0x100 * (seq + 1)));
+            assert!(rt; queue.settles(0) == None);
+        }
+        assert!(rt; queue.candidate(0) == Some(1));
+        queue.bind(1);
+        assert!(rt; queue.candidate(0) == Some(2));
+        queue.bind(2);
+        for seq in 0..3u64 {
+            let (first, second) = answers[seq as usize];
+            assert!(rt; queue.settles(0) == first, "{seq}");
+            assert!(rt; queue.settles(2) == second, "{seq}");
+            queue.placed(seq);
+        }
+        assert!(rt; queue.settles(0) == None);
+    }
+    Ok(())
 }
 
 #[test]
@@ -452,7 +622,7 @@ fn scripts_answer_as_a_plain_list_does(rt: HostRuntime) -> Result<(), Fail> {
                 "{round} {step}"
             );
             if x / 65536 % 4 == 0 {
-                bind_both(&mut queue, &mut list, x);
+                bind_both(&mut queue, &mut list);
             }
         }
     }

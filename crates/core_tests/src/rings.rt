@@ -1,5 +1,6 @@
 //! Each call at the edges of the ring, and a script of calls against an array of flags.
 
+use ring_set::laws::rows_follow_the_entries;
 use ring_set::{PLACES, Places};
 
 // The least age of a flag that is set, or 128.
@@ -24,6 +25,7 @@ fn last(flags: &[bool; 128], head: u8, count: u8) -> u8 {
 
 #[test]
 fn edges(rt: HostRuntime) {
+    rows_follow_the_entries();
     let none = Places::none();
     assert!(rt; none.is_empty());
     assert!(rt; (none.oldest(0), none.oldest(127)) == (128, 128));

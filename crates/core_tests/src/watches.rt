@@ -2,7 +2,7 @@
 
 use memory_contracts::LostList;
 use rsim_base::{Line, Node};
-use settle_watch::SettleWatch;
+use settle_watch::{SettleWatch, loads_stand_in_order};
 use std::alloc::AllocFailed;
 use std::test::Fail;
 
@@ -210,6 +210,7 @@ fn a_load_from_a_store_is_struck_once_the_store_is_gone(rt: HostRuntime) -> Resu
 
 #[test]
 fn the_oldest_is_struck_though_it_was_bound_later(rt: HostRuntime) -> Result<(), Fail> {
+    loads_stand_in_order();
     let mut watch = SettleWatch::make(rt.alloc(), SIZE)?;
     assert!(rt; watch.watch(9, Line(5), false));
     assert!(rt; watch.watch(4, Line(6), false));

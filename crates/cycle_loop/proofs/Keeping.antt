@@ -16,6 +16,7 @@ use Rattle.rsim_base.specs.declared.memory.Line.{Line}
 use Rattle.rsim_base.specs.declared.memory.Node.{Node}
 use Rattle.elf64_load.specs.Image.{ImageView}
 use Rattle.machine_config.specs.declared.config.Config.{Config}
+use Rattle.memory_contracts.specs.Store as store
 use Rattle.memory_contracts.specs.Store.{StoreView, Ticks}
 use Rattle.order_log.specs.Log.{Place, after_pop, first_final}
 use Rattle.cycle_loop.specs.Ranges.{AreSound, HaveNumbers}
@@ -81,13 +82,13 @@ IsReady-start image config line_bytes v cores log serves count most line low non
   counted = λ p c at. subst (IsCounted 0) (sym (first p c at)) (record { accesses = omega arith; retired = omega arith });
 }
 
-pub IsAtStart-made : (image : ImageView) (config : Config) (v : StoreView) (cores : List CoreView) (log : List Place) → Serves image config v → length cores ≡ config.processors → log ≡ [] →
+pub IsAtStart-made : (image : ImageView) (config : Config) (v : StoreView) (cores : List CoreView) (log : List Place) → store.IsSound v → Serves image config v → length cores ≡ config.processors → log ≡ [] →
     ((p : ℕ) (c : CoreView) → slice_get cores p ≡ Some c → c ≡ booted image config.processors p) → IsAtStart image (record { cores = cores; store = v; log = log; cycles = 0 })
-IsAtStart-made image config v cores log serves count none first = record {
+IsAtStart-made image config v cores log sound serves count none first = record {
   cores = λ p c at. first p c at ∙ ap (λ (n : ℕ). booted image n p) (sym count);
   log = none;
   memory = serves.bytes;
-  bytes = serves.small;
+  bytes = λ a fits. sound.small a;
   cycles = refl;
 }
 

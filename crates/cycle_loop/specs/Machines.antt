@@ -11,10 +11,9 @@ use Rattle.cycle_loop.specs.declared.processor.Processor.{Processor}
 abbrev pub machine_view : List Processor → StoreView → List Place → ℕ → MachineView
 machine_view processors store log cycles = record { cores = views_of processors; store = store; log = log; cycles = cycles }
 
--- a store that a machine may be made over: memory is the image's, and its bytes are bytes
+-- a store that a machine may be made over: memory is the image's
 pub record Serves (image : ImageView) (config : Config) (v : StoreView) : Type 0 where
   pub bytes : (a : ℕ) → a < 2 ^ 64 → v.bytes a ≡ byte_at image a
-  pub small : (a : ℕ) → a < 2 ^ 64 → v.bytes a < 256
   pub mapped : v.mapped ≡ is_mapped image
   pub nodes : v.nodes ≡ config.processors
   pub line_bytes : v.line_bytes ≡ config.line

@@ -4,7 +4,7 @@ ghost use Rattle.rsim_base.specs.Limits.{max_processors};
 ghost use Rattle.machine_config.specs.Allowed.{IsAllowed};
 ghost use Rattle.directory.specs.Homes.{HomeView, Serves, first_outgoing, has_room, home_after, is_idle, mail_of, most_outgoing, most_waiting};
 ghost use Rattle.directory.specs.HomeParts.{AreFrom, AreKnown, letters_in, records_in};
-ghost use Rattle.memory_contracts.specs.Letters.{letter_of, told};
+ghost use Rattle.memory_contracts.specs.Letters.{letter_of, message_of, told};
 ghost use Rattle.directory.specs.Start.{IsStart};
 
 use crate::outgoing::{MOST_OUTGOING, Outgoing};
@@ -145,7 +145,7 @@ impl Home {
     /// The oldest message, with the node that it is for, if there is one and it may go in tick `now`.
     pub fn outgoing(&self, now: u64) -> Option<(Node, Message)>
         ensures oldest { option_map told result ≡ option_map mail_of (first_outgoing (home_of self.now).latency now (home_of self.now).outgoing) }
-        ensures from { IfSome result (λ sent. sent.1.from.0 ≡ (home_of self.now).at) }
+        ensures exactly { IfSome result (λ sent. sent.1 ≡ message_of (home_of self.now).at (told sent)) }
         ensures there { OnSome result (0 < length (home_of self.now).outgoing) }
     {
         let post = self.outgoing.first()?;

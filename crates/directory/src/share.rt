@@ -1,5 +1,5 @@
 // The lines of a home, as they are before any message.
-ghost use Rattle.std.specs.Prelude.{◌≡◌, ℕ, ◌+◌, ◌*◌, ◌/◌, ◌%◌, ◌^◌, ◌<◌, ◌≤◌, [], true, IfOk, OnOk};
+ghost use Rattle.std.specs.Prelude.{◌≡◌, ℕ, ◌+◌, ◌*◌, ◌/◌, ◌%◌, ◌^◌, ◌<◌, ◌≤◌, ◌==◌, [], true, IfOk, OnOk};
 ghost use Rattle.std.specs.List.{list_any};
 ghost use Rattle.rsim_base.specs.Limits.{line_room};
 ghost use Rattle.elf64_load.specs.Image.{byte_at, is_mapped};
@@ -7,7 +7,7 @@ ghost use Rattle.elf64_load.specs.Layout.{spans};
 ghost use Rattle.machine_config.specs.Allowed.{IsAllowed};
 ghost use Rattle.directory.specs.HomeParts.{has_line};
 ghost use Rattle.directory.specs.Meanings.{record_of};
-ghost use Rattle.directory.specs.Start.{AreFirst, IsFirst};
+ghost use Rattle.directory.specs.Start.{AreFirst, IsFirst, IsMappedLine};
 
 use crate::line_record::{LinePhase, LineRecord};
 use crate::node_set::NodeSet;
@@ -54,7 +54,7 @@ impl Share {
     /// # Errors
     /// Where memory is short.
     pub fn records(&self, alloc: Global, image: &Image) -> Result<Records, NoMemory>
-        ensures fresh { IfOk result (λ made. IsFresh image.now self.now.line_bytes made) }
+        ensures fresh { IfOk result (λ made. IsFresh image.now self.now made) }
         ensures there { IfOk result (λ made. (a : ℕ) → is_mapped image.now a ≡ true → a / self.now.line_bytes % self.now.nodes ≡ self.now.home.0 → has_line made (a / self.now.line_bytes) ≡ true) }
     {
         let mut records = Records::new(alloc);
@@ -70,8 +70,9 @@ impl Share {
         image: &Image,
         order: &[Span],
     ) -> Result<(), NoMemory>
-        requires fresh { IsFresh image.now self.now.line_bytes records.old }
-        ensures more { OnOk result (AreMore image.now self.now.line_bytes records.old records.new) }
+        requires mapped { (a : ℕ) → list_any (λ s. spans a s) order.now ≡ true → is_mapped image.now a ≡ true }
+        requires fresh { IsFresh image.now self.now records.old }
+        ensures more { OnOk result (AreMore image.now self.now records.old records.new) }
         ensures there { OnOk result ((a : ℕ) → list_any (λ s. spans a s) order.now ≡ true → a / self.now.line_bytes % self.now.nodes ≡ self.now.home.0 → has_line records.new (a / self.now.line_bytes) ≡ true) }
     {
         for span in order {
@@ -88,10 +89,14 @@ impl Share {
         first: u64,
         len: u32,
     ) -> Result<(), NoMemory>
-        requires fresh { IsFresh image.now self.now.line_bytes records.old }
-        ensures more { OnOk result (AreMore image.now self.now.line_bytes records.old records.new) }
+        requires mapped { (a : ℕ) → first ≤ a → a < first + len → is_mapped image.now a ≡ true }
+        requires fresh { IsFresh image.now self.now records.old }
+        ensures more { OnOk result (AreMore image.now self.now records.old records.new) }
         ensures there { OnOk result ((a : ℕ) → first ≤ a → a < first + len → a / self.now.line_bytes % self.now.nodes ≡ self.now.home.0 → has_line records.new (a / self.now.line_bytes) ≡ true) }
     {
+        if len == 0 {
+            return Ok(());
+        }
         let from = first / self.line_bytes;
         let span = first % self.line_bytes + u64::from(len);
         let until = from + span.div_ceil(self.line_bytes);
@@ -107,8 +112,9 @@ impl Share {
         from: u64,
         until: u64,
     ) -> Result<(), NoMemory>
-        requires fresh { IsFresh image.now self.now.line_bytes records.old }
-        ensures more { OnOk result (AreMore image.now self.now.line_bytes records.old records.new) }
+        requires mapped { (l : ℕ) → from ≤ l → l < until → IsMappedLine image.now self.now.line_bytes l }
+        requires fresh { IsFresh image.now self.now records.old }
+        ensures more { OnOk result (AreMore image.now self.now records.old records.new) }
         ensures there { OnOk result ((l : ℕ) → from ≤ l → l < until → l % self.now.nodes ≡ self.now.home.0 → has_line records.new l ≡ true) }
     {
         for number in from..until {
@@ -117,13 +123,21 @@ impl Share {
         Ok(())
     }
 
+    // Whether the line of this number is the home's.
+    fn has(&self, number: u64) -> bool
+        ensures { result ≡ (number % self.now.nodes == self.now.home.0) }
+    {
+        number % self.nodes == u64::from(self.home.0)
+    }
+
     // Adds the line of this number, if it is the home's.
     fn add_line(&self, records: &mut Records, image: &Image, number: u64) -> Result<(), NoMemory>
-        requires fresh { IsFresh image.now self.now.line_bytes records.old }
-        ensures more { OnOk result (AreMore image.now self.now.line_bytes records.old records.new) }
+        requires mapped { IsMappedLine image.now self.now.line_bytes number }
+        requires fresh { IsFresh image.now self.now records.old }
+        ensures more { OnOk result (AreMore image.now self.now records.old records.new) }
         ensures there { OnOk result (number % self.now.nodes ≡ self.now.home.0 → has_line records.new number ≡ true) }
     {
-        if number % self.nodes != u64::from(self.home.0) {
+        if !self.has(number) {
             return Ok(());
         }
         records.add(Line(number), self.first_record(image, number))?;

@@ -1,2 +1,3 @@
 mod Guessing
 mod Spots
+mod Standing

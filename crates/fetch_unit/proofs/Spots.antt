@@ -55,8 +55,8 @@ pub record IsStep (k : ℕ) (i : Instr) (w : Window) : Type 0 where
   pub waits : waits i w ≡ true
 
 -- a step of a spill or fill stands only at an instruction that spills or fills
-step_at : (micro : Option ℕ) (k : ℕ) (i : Instr) (w : Window) → ((j : ℕ) → micro ≡ Some j → (j < 16) × (waits i w ≡ true)) → micro_at micro i w ≡ Some k → IsStep k i w
-step_at (Some j) k i w h e = record { few = (h k e).0; waits = (h k e).1 }
+step_at : (micro : Option ℕ) (k : ℕ) (i : Instr) (w : Window) → ((j : ℕ) → micro ≡ Some j → (1 ≤ j) × (j < 16) × (waits i w ≡ true)) → micro_at micro i w ≡ Some k → IsStep k i w
+step_at (Some j) k i w h e = record { few = (h k e).1; waits = (h k e).2 }
 step_at None k i w h e =
     elim (waits i w) as (λ b. waits i w ≡ b → (if b then Some 0 else None) ≡ Some k → IsStep k i w)
     [ true ↦ λ is e. record { few = let z : 0 ≡ k = cc in omega arith; waits = is } | false ↦ λ is e. cc ] refl e
@@ -90,6 +90,10 @@ after_step false k j i w st e =
     elim (k == 15) as (λ last. (k == 15) ≡ last → (if last then None else Some (k + 1)) ≡ Some j → IsStep j i (if last then record w { cansave = w.cansave - 1; canrestore = w.canrestore + 1 } else w))
     [ true ↦ λ is e. cc | false ↦ λ is e. record { few = let z : k + 1 ≡ j = cc in grind (arith, nat_tests); waits = st.waits } ] refl e
 
+after_first : (k j : ℕ) → micro_after (Some k) ≡ Some j → 1 ≤ j
+after_first k j e =
+    elim (k == 15) as (λ last. (if last then None else Some (k + 1)) ≡ Some j → 1 ≤ j) [ true ↦ λ e. cc | false ↦ λ e. let z : k + 1 ≡ j = cc in omega arith ] e
+
 -- a place is that of a pair which is guessed, if one is
 placed : (micro : Option ℕ) (w : Window) (guess : Option Pair) (image : ImageView) → ((pair : Pair) → guess ≡ Some pair → IsSpotAt image (record { pair = pair; micro = micro; window = w }))
     → IsSpot image (option_map (λ pair. record { pair = pair; micro = micro; window = w }) guess)
@@ -105,7 +109,7 @@ follows_by (Some k) image s p h e =
     let w = windows_by (part_of (Some k) i s.window) i s.window in
     let at : IsSpotAt image (record { pair = s.pair; micro = micro_after (Some k); window = w }) = record {
       windows = part_sound (part_of (Some k) i s.window) i s.window h.windows (part_step k i s.window h.windows st);
-      micro = λ j e. let next = after_step (spills i s.window) k j i s.window st e in (next.few, next.waits);
+      micro = λ j e. let next = after_step (spills i s.window) k j i s.window st e in (after_first k j e, next.few, next.waits);
     } in
     λ next e. let is : record { pair = s.pair; micro = micro_after (Some k); window = w } ≡ next = cc in subst (IsSpotAt image) is at
 follows_by None image s p h e =

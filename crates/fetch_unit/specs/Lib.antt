@@ -1,2 +1,4 @@
 pub mod Laws
 pub mod Path
+pub mod SpotLaws
+pub mod Spots

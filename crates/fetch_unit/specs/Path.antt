@@ -1,5 +1,5 @@
 -- The path that a core fetches along.
-use Rattle.std.specs.Prelude.{◌≡◌, ℕ, ◌+◌, ◌%◌, ◌^◌, ◌<◌, ◌==◌, Bool, true, false, ◌||◌, if◌then◌else◌, Option, None, Some, option_map}
+use Rattle.std.specs.Prelude.{◌≡◌, ℕ, ◌+◌, ◌%◌, ◌^◌, ◌<◌, ◌≤◌, ◌==◌, Bool, true, false, ◌||◌, if◌then◌else◌, Option, None, Some, option_map}
 use Rattle.rsim_base.specs.declared.processor.Pair.{Pair}
 use Rattle.rsim_base.specs.declared.processor.Window.{Window}
 use Rattle.elf64_load.specs.Image.{ImageView}
@@ -124,10 +124,18 @@ FetchesAt image (Some s) before result next after =
 
 -- ---- places
 
--- the windows are sound, and a step of a spill or fill stands only where the instruction spills or fills
+-- the windows are sound, and a spill or fill is under way only where the instruction spills or fills
 pub record IsSpotAt (image : ImageView) (s : Spot) : Type 0 where
   pub windows : AreWindows s.window
-  pub micro : (k : ℕ) → s.micro ≡ Some k → (k < 16) × (waits (instr_at image s.pair.pc) s.window ≡ true)
+  pub micro : (k : ℕ) → s.micro ≡ Some k → (1 ≤ k) × (k < 16) × (waits (instr_at image s.pair.pc) s.window ≡ true)
+
+-- the first step of a spill or fill stands at the place of its instruction
+abbrev pub begun : Option ℕ → Option ℕ
+begun None = None
+begun (Some k) = if k == 0 then None else Some k
+
+abbrev pub redirected : Pair → Option ℕ → Window → Spot
+redirected pair micro window = record { pair = pair; micro = begun micro; window = window }
 
 -- where a unit fetches next, if it knows
 abbrev pub IsSpot : ImageView → Option Spot → Type 0

@@ -2,11 +2,11 @@
 ghost use Rattle.std.specs.Prelude.{◌≡◌, ◌-◌, ◌^◌, ◌<◌, Some, IfSome, IsOkAnd};
 ghost use Rattle.machine_config.specs.Allowed.{IsAllowed};
 ghost use Rattle.sparc_meaning.specs.Fetched.{AreWindows, IsFetched};
-ghost use Rattle.fetch_unit.specs.Path.{FetchesAt, IsSpot, IsSpotAt, fetching, first_spot, follow, leading, meant_by};
+ghost use Rattle.fetch_unit.specs.Path.{FetchesAt, IsSpot, IsSpotAt, fetching, first_spot, follow, leading, meant_by, redirected};
 
 use crate::pairs::led_by;
 use crate::path::{Fetched, Spot};
-use crate::windows::{micro_after, micro_at};
+use crate::windows::{begun, micro_after, micro_at};
 use branch_predict::Predictor;
 use elf64_load::Image;
 use machine_config::Config;
@@ -78,15 +78,15 @@ impl FetchUnit {
         Some(fetched)
     }
 
-    /// Goes on at another place, as after a wrong guess or a squash.
+    /// Goes on at another place, as after a wrong guess or a squash. Step 0 of a spill or fill is where its instruction is.
     pub fn redirect(&mut self, pair: Pair, micro: Option<u8>, window: Window)
         requires windows { AreWindows window }
         requires micro { IfSome micro (λ k. k < 16) }
-        ensures { self.new ≡ Some (record { pair = pair; micro = micro; window = window }) }
+        ensures { self.new ≡ Some (redirected pair micro window) }
     {
         self.next = Some(Spot {
             pair,
-            micro,
+            micro: begun(micro),
             window,
         });
     }

@@ -8,7 +8,7 @@ use sparc_decode::Instr;
 #[derive(Clone, Copy, PartialEq, Eq)]
 pub struct Spot {
     pub pair: Pair,
-    /// 1 to 15 within a spill or fill. After a redirect it may be 0 too.
+    /// 1 to 15 within a spill or fill; `None` at an instruction and at the first step of the spill or fill that it needs.
     pub micro: Option<u8>,
     pub window: Window,
 }

@@ -9,6 +9,16 @@ use sparc_meaning::{ArchPhase, must_fill, must_spill};
 // The last step of a spill or fill.
 const LAST: u8 = 15;
 
+/// The step of a spill or fill at which a place is: none at its first step, which stands at the instruction.
+pub(crate) fn begun(micro: Option<u8>) -> Option<u8>
+    ensures { result ≡ spec.begun micro }
+{
+    match micro {
+        None | Some(0) => None,
+        Some(k) => Some(k),
+    }
+}
+
 /// The step of a spill or fill that stands at a place; none where the instruction itself runs.
 pub(crate) fn micro_at(micro: Option<u8>, i: &Instr, w: Window) -> Option<u8>
     ensures { result ≡ spec.micro_at micro i.now w }

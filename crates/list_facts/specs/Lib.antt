@@ -1,4 +1,5 @@
 pub mod Filters
+pub mod Least
 pub mod Options
 pub mod Places
 pub mod Rising

@@ -1,6 +1,7 @@
 pub mod Numbers
 pub mod Turns
 pub mod Exchanges
+pub mod Owned
 pub mod Wishing
 pub mod Added
 pub mod Sizes

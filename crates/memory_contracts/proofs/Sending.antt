@@ -17,7 +17,7 @@ pub marked-sent : (mesh : Mesh) (now : ℕ) (packets : List Packet) (s : Packet)
 marked-sent mesh now packets s some length start =
     let flits = some_flit mesh.flit_bytes (cond (carries_bytes s.message.kind) mesh.line_bytes 0) some in
     let under_way : nat_le (earliest mesh.width (flight_of s)) now ≡ false = grind (arith, nat_tests, flits, length, start) in
-    λ i. record { source = s.source.0; to = s.to.0; length = length i; start = start i; message = s.message; arrived = under_way i }
+    λ i. record { source = s.source.0; to = s.to.0; length = length i; start = start i; message = s.message; arrived = under_way i; place = 0; left = 0; came = 0 }
 
 pub sent-after : (mesh : Mesh) (now : ℕ) (old new : List Packet) (s : Packet) → is_full (carrier_of mesh now old) s.source.0 (class_of s.message.kind) ≡ false → new ≡ old ++ s ∷ [] →
     marked mesh.width now (flight_of s) ≡ sends (carrier_of mesh now old) s.source.0 s.to.0 s.message → carrier_of mesh now new ≡ after_send (carrier_of mesh now old) s.source.0 s.to.0 s.message

@@ -1,5 +1,5 @@
 -- A carrier that keeps a list, and in which each message arrives as early as it may.
-use Rattle.std.specs.Prelude.{ℕ, ◌+◌, nat_le, [], map}
+use Rattle.std.specs.Prelude.{ℕ, ◌+◌, nat_le, [], map, None}
 use Rattle.machine_config.specs.declared.config.Config.{Config}
 use Rattle.memory_contracts.specs.Carrier.{CarrierView, Flight, earliest}
 
@@ -19,4 +19,5 @@ no_flights config = record {
   width = config.mesh_width;
   flit_bytes = config.flit_bytes;
   line_bytes = config.line;
+  net = None;
 }

@@ -1,5 +1,5 @@
 -- What a carrier of messages means: the messages that are under way between nodes of a mesh, in the order of their sending.
-use Rattle.std.specs.Prelude.{◌≡◌, ℕ, ◌+◌, ◌/◌, ◌%◌, ◌<◌, ◌≤◌, ◌==◌, nat_le, Bool, true, false, ◌&&◌, if◌then◌else◌, List, [], ◌∷◌, ◌++◌, length, map, slice_get, Option, None, Some}
+use Rattle.std.specs.Prelude.{◌≡◌, ℕ, ◌+◌, ◌/◌, ◌%◌, ◌<◌, ◌≤◌, ◌==◌, nat_le, Bool, true, false, ◌&&◌, if◌then◌else◌, List, [], ◌∷◌, ◌++◌, length, map, slice_get, Option, None, Some, is_some}
 use Rattle.std.specs.Int.{abs_diff, div_ceil}
 use Rattle.std.specs.Option.{option_or}
 use Rattle.std.specs.List.{filter, position, remove}
@@ -8,6 +8,31 @@ use Rattle.memory_contracts.specs.declared.message.Class.TheVariants.{Ask, Order
 use Rattle.memory_contracts.specs.declared.message.Message.{Message}
 use Rattle.memory_contracts.specs.declared.message.MsgKind.{MsgKind}
 use Rattle.memory_contracts.specs.declared.message.MsgKind.TheVariants.{GetS, GetM, Put, Inv, Recall, Grant, PutAck, InvAck, RecallAck, Done}
+
+-- ---- what a net of routers tells of itself
+
+-- the ports of a router: one to its own node, four to its neighbours
+pub data Port : Type 0 where
+  Here : Port
+  North : Port
+  South : Port
+  East : Port
+  West : Port
+
+-- the name of a message under way: the tick in which it was sent, and its place among those that were
+pub record Name : Type 0 where
+  pub start : ℕ
+  pub place : ℕ
+
+pub record NetView : Type 0 where
+  -- how many flits of a class stand at a port
+  pub depth : ℕ
+  -- the messages whose flits stand at a port of a router, by class: a name for each flit, the first first
+  pub queue : ℕ → Port → Class → List Name
+  -- the port that an output of a router served last
+  pub turn : ℕ → Port → Port
+
+-- ---- messages under way
 
 -- a message under way
 pub record Flight : Type 0 where
@@ -20,6 +45,11 @@ pub record Flight : Type 0 where
   pub message : Message
   -- whether the whole of it has arrived
   pub arrived : Bool
+  -- its place among those that were sent in its tick, where the carrier tells of its net
+  pub place : ℕ
+  -- of its flits, how many have left the room of its node, and how many have arrived
+  pub left : ℕ
+  pub came : ℕ
 
 pub record CarrierView : Type 0 where
   -- in the order of their sending
@@ -30,6 +60,8 @@ pub record CarrierView : Type 0 where
   pub width : ℕ
   pub flit_bytes : ℕ
   pub line_bytes : ℕ
+  -- the routers, where the carrier tells of them
+  pub net : Option NetView
 
 -- ---- messages
 
@@ -95,8 +127,22 @@ sent_by p c flights = filter (λ f. (f.source == p) && has_class c f) flights
 abbrev pub is_full : CarrierView → ℕ → Class → Bool
 is_full v p c = nat_le room (length (sent_by p c v.flights))
 
+-- the place of a message that is sent now
+abbrev pub place_now : CarrierView → ℕ
+place_now v = if is_some v.net then length (filter (λ f. f.start == v.ticks) v.flights) else 0
+
 abbrev pub sends : CarrierView → ℕ → ℕ → Message → Flight
-sends v p to m = record { source = p; to = to; length = flits_of v.flit_bytes v.line_bytes m.kind; start = v.ticks; message = m; arrived = false }
+sends v p to m = record {
+  source = p;
+  to = to;
+  length = flits_of v.flit_bytes v.line_bytes m.kind;
+  start = v.ticks;
+  message = m;
+  arrived = false;
+  place = place_now v;
+  left = 0;
+  came = 0;
+}
 
 abbrev pub after_send : CarrierView → ℕ → ℕ → Message → CarrierView
 after_send v p to m = if is_full v p (class_of m.kind) then v else record v { flights = v.flights ++ sends v p to m ∷ [] }
@@ -130,13 +176,13 @@ Takes p old new (Some m) = TakesOne p old new m
 
 -- ---- a tick
 
--- a message under way, whether it has arrived or not
+-- a message under way, however far it has come
 abbrev pub unmarked : Flight → Flight
-unmarked f = record f { arrived = false }
+unmarked f = record f { arrived = false; left = 0; came = 0 }
 
 -- The messages stay in their order; some may have arrived, none too early, and what has arrived stays so.
 pub record CarrierTicks (old new : CarrierView) : Type 0 where
-  pub same : new ≡ record old { flights = new.flights; ticks = old.ticks + 1 }
+  pub same : new ≡ record old { flights = new.flights; net = new.net; ticks = old.ticks + 1 }
   pub stay : map unmarked new.flights ≡ map unmarked old.flights
   pub kept : (i : ℕ) (f g : Flight) → slice_get old.flights i ≡ Some f → slice_get new.flights i ≡ Some g → f.arrived ≡ true → g.arrived ≡ true
 

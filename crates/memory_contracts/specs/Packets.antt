@@ -13,7 +13,7 @@ use Rattle.memory_contracts.specs.declared.rooms.Rooms.{Rooms}
 
 -- a packet under way, without its mark
 abbrev pub flight_of : Packet → Flight
-flight_of s = record { source = s.source.0; to = s.to.0; length = s.length; start = s.start; message = s.message; arrived = false }
+flight_of s = record { source = s.source.0; to = s.to.0; length = s.length; start = s.start; message = s.message; arrived = false; place = 0; left = 0; came = 0 }
 
 -- all packets at the tick now, in a mesh of this width
 abbrev pub flights_of : ℕ → ℕ → List Packet → List Flight
@@ -27,6 +27,7 @@ carrier_of mesh now packets = record {
   width = mesh.width;
   flit_bytes = mesh.flit_bytes;
   line_bytes = mesh.line_bytes;
+  net = None;
 }
 
 -- The packets go between the nodes, their rooms are counted, and there is memory for all that the rooms allow.

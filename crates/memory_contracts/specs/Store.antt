@@ -1,9 +1,10 @@
 -- What a store of cache lines means: the bytes of memory, which lines each node has, and which it has asked for.
 use Rattle.std.specs.Prelude.{◌≡◌, ℕ, zero, suc, ◌+◌, ◌-◌, ◌*◌, ◌/◌, ◌<◌, ◌≤◌, ◌==◌, ◌⊎◌, nat_lt, nat_le, Bool, true, not, ◌&&◌, ◌||◌, if◌then◌else◌, List, [], ◌∷◌, ◌++◌, length, Option, None, Some}
 use Rattle.std.specs.List.{list_any}
-use Rattle.rsim_base.specs.Bytes.{byte_of}
+use Rattle.rsim_base.specs.Bytes.{byte_of, count_of}
 use Rattle.rsim_base.specs.declared.memory.Line.{Line}
 use Rattle.rsim_base.specs.declared.memory.Node.{Node}
+use Rattle.rsim_base.specs.declared.memory.Size.{Size}
 
 -- a line that a node asks for, and whether it asks to own it
 pub record Wish : Type 0 where
@@ -79,6 +80,22 @@ abbrev pub after_wish : StoreView → ℕ → ℕ → Bool → StoreView
 after_wish v p line own =
     if takes_wish v p line own && not (is_covered v p line own) then with_wish v p (record { line = line; own = own }) else v
 
+-- ---- what stands behind a store
+
+-- what a read, a write and a wish of a node make of it
+pub record Effects (I : Type 0) : Type 0 where
+  pub reading : ℕ → ℕ → Size → I → I
+  pub writing : ℕ → ℕ → Size → ℕ → I → I
+  pub wishing : ℕ → ℕ → Bool → I → I
+
+-- nothing else does: a read changes nothing, a write memory, a wish the wishes
+abbrev pub plain_effects : Effects StoreView
+plain_effects = record {
+  reading = λ p a n v. v;
+  writing = λ p a n value v. after_write v p a (count_of n) value;
+  wishing = λ p line own v. after_wish v p line own;
+}
+
 -- ---- a tick
 
 -- node p and line l are among these
@@ -107,9 +124,11 @@ pub record Ticks (old new : StoreView) (gone : List (Node × Line)) : Type 0 whe
 
 -- ---- what is true of every store
 
--- What is near or owned is held; what a node owns no other holds.
+-- What is near or owned is held; what a node owns no other holds; nobody else holds a line.
 pub record IsSound (v : StoreView) : Type 0 where
+  pub within : (p l : ℕ) → v.held p l ≡ true → p < v.nodes
   pub near : (p l : ℕ) → v.near p l ≡ true → v.held p l ≡ true
   pub owned : (p l : ℕ) → v.owned p l ≡ true → v.held p l ≡ true
   pub alone : (p q l : ℕ) → v.owned p l ≡ true → v.held q l ≡ true → q ≡ p
   pub few : (p : ℕ) → length (v.wishes p) ≤ most_wishes
+  pub small : (a : ℕ) → v.bytes a < 256

@@ -59,6 +59,8 @@ impl Carrier for BagCarrier {
 
     ghost meaning = { bag_of };
 
+    ghost Moves = { λ u v. v ≡ ticked u };
+
     fn send(&mut self, p: Node, to: Node, m: Message) -> bool {
         let class = m.kind.class();
         if self.rooms.is_full(p, class) {
@@ -83,11 +85,7 @@ impl Carrier for BagCarrier {
     }
 
     // No mark is kept: whether a message has arrived follows from the tick.
-    fn tick(&mut self)
-        requires few { (bag_of self.old).ticks < 4294967295 }
-        ensures ticks { CarrierTicks (bag_of self.old) (bag_of self.new) }
-        ensures exactly { bag_of self.new ≡ ticked (bag_of self.old) }
-    {
+    fn tick(&mut self) {
         self.ticks += 1;
     }
 

@@ -10,6 +10,9 @@ use rsim_base::Node;
 pub trait Carrier {
     ghost meaning: { Self → CarrierView };
 
+    // What a tick makes of the messages under way, and of what carries them.
+    ghost Moves: { CarrierView → CarrierView → Type 0 };
+
     /// Sends a message from node `p` to another, and answers whether it did: not where eight messages of its class that
     /// `p` has sent are under way still. Then nothing changes.
     fn send(&mut self, p: Node, to: Node, m: Message) -> bool
@@ -27,7 +30,8 @@ pub trait Carrier {
     /// Lets a tick pass, in which messages may arrive.
     fn tick(&mut self)
         requires few { (meaning self.old).ticks < 4294967295 }
-        ensures ticks { CarrierTicks (meaning self.old) (meaning self.new) };
+        ensures ticks { CarrierTicks (meaning self.old) (meaning self.new) }
+        ensures moves { Moves (meaning self.old) (meaning self.new) };
 
     ghost sound: { (s : Self) → IsCarrying (meaning s) };
 }

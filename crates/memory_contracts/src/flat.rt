@@ -73,8 +73,20 @@ impl FlatStore {
 impl CoherentStore for FlatStore {
     ghost use Rattle.memory_contracts.specs.FlatStores.{flat_of};
     ghost use Rattle.memory_contracts.specs.Sound.{IsSound-kept};
+    ghost use Rattle.memory_contracts.specs.Store.{StoreView, Ticks, plain_effects};
+    ghost use Rattle.std.specs.Prelude.{refl};
 
     ghost meaning = { λ s. store_of (flat_of s) };
+
+    ghost Inside = { StoreView };
+
+    ghost inside = { λ s. store_of (flat_of s) };
+
+    ghost view = { λ v. v };
+
+    ghost effects = { plain_effects };
+
+    ghost Ticked = { Ticks };
 
     fn read(&mut self, p: Node, a: Addr, n: Size) -> Option<u64> {
         if !self.is_near(p, line_of(a, self.line_bytes)) {
@@ -114,5 +126,7 @@ impl CoherentStore for FlatStore {
         self.exchange(lost);
     }
 
-    ghost sound = { λ s. IsSound-kept s.memory s.owners s.wishes s.spans.items s.line_bytes s.ticks s.kept.few };
+    ghost sound = { λ s. IsSound-kept s.memory s.owners s.wishes s.spans.items s.line_bytes s.ticks s.kept };
+
+    ghost seen = { λ s. refl };
 }

@@ -4,8 +4,8 @@ ghost use Rattle.memory_contracts.specs.Carrier.{carries_bytes, class_of};
 
 use rsim_base::{LINE_ROOM, Line, Node};
 
-/// The class of a message, from the lowest to the highest. Each class has rooms of its own, so that a message never waits
-/// for one of a lower class.
+/// The class of a message, from the lowest to the highest. Each class has rooms of its own: to send a message of one class is
+/// never refused because of another.
 #[derive(Clone, Copy, Debug, PartialEq, Eq, PartialOrd, Ord)]
 pub enum Class {
     /// A node asks for a line, or gives one back.

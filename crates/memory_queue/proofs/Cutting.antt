@@ -1,10 +1,9 @@
 -- What cutting leaves of accesses along which numbers rise: what goes stands at the end.
-use Rattle.std.proofs.Common.{◌≡◌, ℕ, zero, suc, ◌+◌, ◌-◌, ◌<◌, ◌≤◌, Bool, true, false, All, List, [], ◌∷◌, ◌++◌, length, get_or, take, filter, Option, Some, None, nat_le, slice_get, refl, sym, ap, subst, ◌∙◌, ⊎_elim, arith}
+use Rattle.std.proofs.Common.{◌≡◌, ℕ, zero, suc, ◌-◌, ◌<◌, ◌≤◌, true, false, List, [], ◌∷◌, length, get_or, take, filter, Option, Some, None, nat_le, refl, sym, ap, subst, ◌∙◌, ⊎_elim, arith}
 use Rattle.std.proofs.lemmas.Bool.Decides.{nat_tests}
-use Rattle.std.proofs.lemmas.List.{get_or-take, take_more, take_all, append-nil}
-use Rattle.std.proofs.lemmas.List.Elements.{filter-append}
+use Rattle.std.proofs.lemmas.List.{get_or-take}
 use Rattle.std.proofs.lemmas.Bool.{cases_lt}
-use Rattle.std.proofs.lemmas.Option.{slice_get-get_or, slice_get_within, get_or_from_slice_get}
+use Rattle.std.proofs.lemmas.Option.{slice_get-get_or, get_or_from_slice_get}
 use Rattle.circular_buffer.specs.Buffer.{last_item}
 use Rattle.list_facts.specs.Filters.{filter-all, filter-without_last}
 use Rattle.memory_queue.specs.Queues.{AreRising, is_after}
@@ -45,3 +44,17 @@ filter-kept seq xs (Some x) is kept rising =
     (λ (past : length xs - 1 ≤ k). let here : k ≡ length xs - 1 = omega (arith, past, l) in omega (arith, ap (λ (y : Queued). y.seq) (ap (λ j. get_or xs j d) here ∙ e)))
     (cases_lt k (length xs - 1)) in
     grind (arith, nat_tests))
+
+-- the first ones of the first ones are the first ones
+take-take : (m n : ℕ) (xs : List Queued) → m ≤ n → take m (take n xs) ≡ take m xs
+take-take zero n xs le = refl
+take-take (suc m) zero xs le = absurd (omega (arith, le))
+take-take (suc m) (suc n) [] le = refl
+take-take (suc m) (suc n) (x ∷ xs) le = ap (λ (ys : List Queued). x ∷ ys) (take-take m n xs (omega (arith, le)))
+
+-- they still are once the last is gone
+pub oldest-less : (ys xs zs : List Queued) → zs ≡ take (length ys - 1) ys → ys ≡ take (length ys) xs → zs ≡ take (length zs) xs
+oldest-less ys xs zs less oldest =
+    let n = length ys - 1 in
+    let long : length zs ≡ n = ap length less ∙ length-take ys n (omega arith) in
+    less ∙ (ap (take n) oldest ∙ (take-take n (length ys) xs (omega arith) ∙ ap (λ i. take i xs) (sym long)))

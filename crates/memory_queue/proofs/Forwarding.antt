@@ -1,7 +1,9 @@
--- What is forwarded: the youngest of the earlier accesses decides.
-use Rattle.std.proofs.Common.{◌≡◌, ℕ, suc, ◌-◌, ◌<◌, Bool, cond, List, take, find, reverse, Option, Some, option_and_then, slice_get, ap, ◌∙◌, arith}
+-- What is met: the youngest of the earlier accesses, which decides what is forwarded.
+use Rattle.std.proofs.Common.{◌≡◌, ℕ, suc, ◌-◌, ◌<◌, Bool, false, cond, List, take, find, reverse, Option, Some, option_and_then, slice_get, ap, ◌∙◌, arith}
+use Rattle.std.specs.Option.{option_map_or}
 use Rattle.rsim_base.specs.declared.memory.Addr.{Addr}
-use Rattle.memory_queue.specs.Queues.{forwarded, forwarded_to, given_by, meets}
+use Rattle.rsim_base.specs.declared.memory.Size.{Size}
+use Rattle.memory_queue.specs.Queues.{forwarded, forwarded_to, given_by, is_met_at, meets}
 use Rattle.memory_queue.specs.declared.queued.Queued.{Queued}
 use Rattle.memory_queue.proofs.Walking.{back-at}
 
@@ -21,3 +23,7 @@ forwarded-at xs k load a found at addr is =
     ap (option_and_then (forwarded (take k xs))) at
     ∙ (ap (option_and_then (λ (b : Addr). given_by b load.size (find (meets b load.size) (reverse (take k xs))))) addr
     ∙ ap (given_by a load.size) is)
+
+-- one at a place passes where it does
+pub met-at : (a : Addr) (n : Size) (xs : List Queued) (j : ℕ) (x : Queued) (b : Bool) → slice_get xs j ≡ Some x → meets a n x ≡ b → is_met_at a n xs j ≡ b
+met-at a n xs j x b at is = ap (λ o. option_map_or (meets a n) o false) at ∙ is

@@ -1,6 +1,8 @@
 mod Binding
 mod Cutting
 mod Forwarding
-mod Parts
+mod Picking
+mod Ringed
 mod Rising
+mod Seen
 mod Walking

@@ -1,14 +1,10 @@
 -- Numbers that rise along the queue, and the one access of a number.
-use Rattle.std.proofs.Common.{◌≡◌, ◌≢◌, ℕ, zero, suc, ◌+◌, ◌<◌, ◌≤◌, ◌==◌, Bool, true, false, cond, List, [], ◌∷◌, ◌++◌, All, length, get_or, set, map, drop, Some, slice_get, refl, sym, ap, subst, ◌∙◌, ⊎_elim, arith}
+use Rattle.std.proofs.Common.{◌≡◌, ◌≢◌, ℕ, zero, suc, ◌+◌, ◌<◌, ◌≤◌, ◌==◌, true, false, cond, List, [], ◌∷◌, ◌++◌, All, length, get_or, set, map, drop, Some, slice_get, refl, sym, ap, subst, ◌∙◌, ⊎_elim, arith}
 use Rattle.std.proofs.lemmas.Bool.{cases_lt, eq-eqb, ne_eqb}
 use Rattle.std.proofs.lemmas.List.{length-set}
-use Rattle.std.proofs.lemmas.List.Elements.{All-push}
 use Rattle.std.proofs.lemmas.List.Quantifiers.{all_pairs_push}
 use Rattle.std.proofs.lemmas.Option.{get_or_from_slice_get, slice_get_within}
-use Rattle.rsim_base.specs.declared.memory.Kind.{Kind}
-use Rattle.rsim_base.specs.declared.memory.Size.{Size}
-use Rattle.order_axioms.specs.declared.counting.Fences.{Fences}
-use Rattle.memory_queue.specs.Queues.{AreRising, QueueView, has_place, joining, pushed}
+use Rattle.memory_queue.specs.Queues.{AreRising}
 use Rattle.memory_queue.specs.declared.queued.Queued.{Queued}
 
 -- ---- what keeps them rising

@@ -1,9 +1,10 @@
 //! The accesses of a core that are in flight.
 #![tactic(auto)]
 
-mod laws;
+pub mod laws;
 mod queue;
 mod queued;
+mod rows;
 
-pub use laws::forwarded_bytes_are_the_stores;
 pub use queue::MemoryQueue;
+pub use queued::Queued;

@@ -1,11 +1,13 @@
 // The accesses in flight, in the order of the program.
 ghost use Rattle.memory_queue.specs.declared.queued.Queued.{Queued};
-ghost use Rattle.std.specs.Prelude.{◌≡◌, ◌≢◌, ◌<◌, IfOk, IfSome, All, None, Some, true, length, drop, take, filter, nat_le, option_map, slice_get, slice_set};
+ghost use Rattle.std.specs.Prelude.{◌≡◌, ◌≢◌, ◌^◌, ◌<◌, ◌≤◌, ℕ, IfOk, IfSome, All, None, Some, false, true, length, drop, take, filter, nat_le, option_and_then, option_copied, option_map, slice_get, slice_set};
 ghost use Rattle.machine_config.specs.Allowed.{IsAllowed};
 ghost use Rattle.circular_buffer.specs.Buffer.{last_item};
-ghost use Rattle.memory_queue.specs.Queues.{AreRising, is_after, are_stores_known, binds, changed, cut, first_candidate, first_queue, forwarded_to, has_place, is_ready, may_bind, pushed};
+ghost use Rattle.list_facts.specs.Least.{IsGreatest, IsLeast};
+ghost use Rattle.memory_queue.specs.Queues.{AreRising, is_after, are_stores_known, binds, binds_now, changed, cut, first_queue, forwarded_to, gives_way, has_place, is_met, is_met_at, is_ready, met_by, met_from, pushed, settles_now};
 
 use crate::queued::Queued;
+use crate::rows::Rows;
 use circular_buffer::HeapCircularBuffer;
 use machine_config::Config;
 use order_axioms::Fences;
@@ -18,20 +20,22 @@ use std::marker::Model;
 #[derive(Drop)]
 pub struct MemoryQueue {
     accesses: HeapCircularBuffer<Queued>,
+    rows: Rows,
     model: Consistency,
     speculates: bool,
 }
 
 impl Model for MemoryQueue {
-    ghost use Rattle.std.specs.Prelude.{◌≤◌};
+    ghost use Rattle.std.specs.Prelude.{◌≤◌, length};
     ghost use Rattle.memory_queue.specs.Queues.{AreRising, QueueView};
+    ghost use Rattle.memory_queue.specs.Rows.{AreRows};
     ghost use Rattle.rsim_base.specs.Limits.{max_in_flight};
 
     ghost Value = { QueueView };
 
     ghost view = { λ q. record { accesses = q.accesses.items; size = q.accesses.capacity; model = q.model; speculates = q.speculates } };
 
-    ghost invariant = { λ q. AreRising q.accesses.items × (q.accesses.capacity ≤ max_in_flight) };
+    ghost invariant = { λ q. AreRising q.accesses.items × (q.accesses.capacity ≤ max_in_flight) × (length q.accesses.items ≤ 128) × AreRows q.rows q.accesses.items };
 }
 
 impl MemoryQueue {
@@ -49,6 +53,7 @@ impl MemoryQueue {
         };
         Ok(MemoryQueue {
             accesses,
+            rows: Rows::none(),
             model: config.model,
             speculates: config.speculate,
         })
@@ -61,7 +66,12 @@ impl MemoryQueue {
         ensures after { self.new ≡ pushed seq kind size fences self.old }
     {
         let access = Queued::joining(seq, kind, size, fences);
-        self.accesses.try_push_back(access).is_ok()
+        let place = self.accesses.len();
+        if self.accesses.try_push_back(access).is_err() {
+            return false;
+        }
+        self.rows.put(place as u8, &access);
+        true
     }
 
     /// An access has its place in the order; a store or atomic is performed. Nothing changes where none has this number.
@@ -110,20 +120,22 @@ impl MemoryQueue {
     }
 
     /// The place of the first load from place `from` on that may bind, as far as the accesses of this queue decide it: it is
-    /// not bound, its address is known, and so is that of every earlier store and atomic. Without speculation every earlier
-    /// access that must come before it has its place, too.
+    /// not bound, its address is known, and so is that of every earlier store and atomic. Either no earlier store or atomic
+    /// that is not performed overlaps it, or the youngest of these gives it its value, as `forward` tells. Without speculation
+    /// every earlier access that must come before it has its place, too.
     pub fn candidate(&self, from: u32) -> Option<u32>
-        ensures first { result ≡ first_candidate from self.now }
-        ensures there { IfSome result (λ k. k < length self.now.accesses) }
+        ensures { IsLeast from (binds_now self.now) (length self.now.accesses) result }
     {
-        for k in 0..self.accesses.len() {
-            let access = self.at(k);
-            if k >= from as usize && self.may_bind(k, access) {
+        let end = self.first_unknown();
+        if from as usize >= end {
+            return None;
+        }
+        let mut k = self.rows.next(self.rows.waiting, from as usize);
+        while k < end {
+            if self.may_bind(k) {
                 return Some(k as u32);
             }
-            if !access.lets_loads_pass() {
-                return None;
-            }
+            k = self.rows.next(self.rows.waiting, k + 1);
         }
         None
     }
@@ -135,29 +147,68 @@ impl MemoryQueue {
     {
         let load = self.accesses.get(k as usize)?;
         let a = load.addr?;
-        for earlier in (0..k as usize).rev() {
-            let access = self.at(earlier);
-            if access.meets(a, load.size) {
-                return access.gives(a, load.size);
-            }
-        }
-        None
+        let earlier = self.met(k as usize, a, load.size)?;
+        self.known(earlier).gives(a, load.size)
     }
 
-    /// The load at place `k` has its value, and whether that came from a store which is not performed.
-    pub fn bind(&mut self, k: u32, v: u64, from_store: bool)
+    /// The place of the youngest earlier store or atomic that is not performed and overlaps the access at place `k`. `None`
+    /// where there is none, or the address is not known.
+    pub fn source(&self, k: u32) -> Option<u32>
+        ensures last { IsGreatest (is_met k self.now.accesses) k result }
+        ensures met { option_and_then (λ j. slice_get self.now.accesses j) result ≡ met_from k self.now.accesses }
+    {
+        let load = self.accesses.get(k as usize)?;
+        let a = load.addr?;
+        let earlier = self.met(k as usize, a, load.size)?;
+        Some(earlier as u32)
+    }
+
+    /// The load at place `k` has its value.
+    pub fn bind(&mut self, k: u32)
         requires { k < length self.old.accesses }
-        ensures { self.new ≡ binds k v from_store self.old }
+        ensures { self.new ≡ binds k self.old }
     {
         if let Some(load) = self.accesses.get(k as usize) {
             let load = Queued {
-                value: Some(v),
                 bound: true,
-                from_store,
                 ..*load
             };
             self.put(k as usize, load);
         }
+    }
+
+    /// The place of the first load from place `from` on that is bound and has no place in the order, though every earlier
+    /// access that must come before it has one.
+    pub fn settles(&self, from: u32) -> Option<u32>
+        ensures { IsLeast from (settles_now self.now) (length self.now.accesses) result }
+    {
+        let end = self.accesses.len();
+        if from as usize >= end {
+            return None;
+        }
+        let mut k = self.rows.next(self.rows.settling, from as usize);
+        while k < end {
+            if self.may_settle(k) {
+                return Some(k as u32);
+            }
+            k = self.rows.next(self.rows.settling, k + 1);
+        }
+        None
+    }
+
+    /// The access with `k` older ones. `None` where there is none.
+    pub fn at(&self, k: u32) -> Option<&Queued>
+        ensures { option_copied result ≡ slice_get self.now.accesses k }
+    {
+        self.accesses.get(k as usize)
+    }
+
+    /// The number of the access with `k` older ones. `None` where there is none.
+    pub fn number(&self, k: u32) -> Option<u64>
+        ensures { result ≡ option_map (λ x. x.seq) (slice_get self.now.accesses k) }
+    {
+        let access = self.accesses.get(k as usize)?;
+        Some(access.seq)
     }
 
     /// Takes the oldest access out, and answers its number.
@@ -166,6 +217,7 @@ impl MemoryQueue {
         ensures after { self.new ≡ record self.old { accesses = drop 1 self.old.accesses } }
     {
         let access = self.accesses.pop_front()?;
+        self.rows.pop();
         Some(access.seq)
     }
 
@@ -174,6 +226,7 @@ impl MemoryQueue {
         ensures { self.new ≡ cut seq self.old }
     {
         drop_after(&mut self.accesses, seq);
+        self.rows.cut(self.accesses.len() as u8);
     }
 
     // The access of this number, and its place.
@@ -183,7 +236,7 @@ impl MemoryQueue {
         ensures none { result ≡ None → (change : Queued → Queued) → changed seq change self.now ≡ self.now }
     {
         for place in 0..self.accesses.len() {
-            let access = self.at(place);
+            let access = self.known(place);
             if access.seq == seq {
                 return Some((place, *access));
             }
@@ -191,8 +244,8 @@ impl MemoryQueue {
         None
     }
 
-    // The access at a place.
-    fn at(&self, place: usize) -> &Queued
+    // What is known of the access at a place.
+    fn known(&self, place: usize) -> &Queued
         requires { place < length self.now.accesses }
         ensures { slice_get self.now.accesses place ≡ Some result.now }
     {
@@ -208,20 +261,78 @@ impl MemoryQueue {
             return;
         };
         *there = access;
+        self.rows.put(place as u8, &access);
+    }
+
+    // The place of the oldest store or atomic at an address that is not known, or as many as there are. Behind it no load may
+    // bind.
+    fn first_unknown(&self) -> usize
+        ensures within { result ≤ length self.now.accesses }
+        ensures small { result < 2 ^ 32 }
+        ensures known { (k : ℕ) → k ≤ result → are_stores_known (take k self.now.accesses) ≡ true }
+        ensures rest { (k : ℕ) → result ≤ k → k < length self.now.accesses → binds_now self.now k ≡ false }
+    {
+        let unknown = self.rows.next(self.rows.unknown, 0);
+        unknown.min(self.accesses.len())
     }
 
     // Whether the access at place `k`, before which every store has an address, is a load that may bind.
-    fn may_bind(&self, k: usize, access: &Queued) -> bool
-        requires { k < length self.now.accesses }
-        ensures { are_stores_known (take k self.now.accesses) ≡ true → result ≡ may_bind self.now (take k self.now.accesses) access.now }
+    fn may_bind(&self, k: usize) -> bool
+        requires within { k < length self.now.accesses }
+        requires known { are_stores_known (take k self.now.accesses) ≡ true }
+        ensures { result ≡ binds_now self.now k }
     {
-        if access.kind != Kind::Load || access.bound {
+        let load = self.known(k);
+        if load.kind != Kind::Load || load.bound {
             return false;
         }
-        let Some(a) = access.addr else {
+        let Some(a) = load.addr else {
             return false;
         };
-        self.speculates || self.is_ready(k, a, access)
+        self.gives_way(k, a, load.size) && (self.speculates || self.is_ready(k, a, load))
+    }
+
+    // Whether what a load at place `k` of `n` bytes from `a` on would meet gives its value, or it meets nothing.
+    fn gives_way(&self, k: usize, a: Addr, n: Size) -> bool
+        requires { k ≤ length self.now.accesses }
+        ensures { result ≡ gives_way a n (met_by (take k self.now.accesses) a n) }
+    {
+        match self.met(k, a, n) {
+            None => true,
+            Some(earlier) => self.known(earlier).gives(a, n).is_some(),
+        }
+    }
+
+    // The place of the youngest store or atomic before place `k` that is not performed and overlaps the `n` bytes from `a` on.
+    fn met(&self, k: usize, a: Addr, n: Size) -> Option<usize>
+        requires { k ≤ length self.now.accesses }
+        ensures last { IsGreatest (is_met_at a n self.now.accesses) k result }
+        ensures value { met_by (take k self.now.accesses) a n ≡ option_and_then (λ j. slice_get self.now.accesses j) result }
+    {
+        let mut end = self.rows.previous(self.rows.stores, k);
+        while end > 0 {
+            let earlier = end - 1;
+            if self.known(earlier).meets(a, n) {
+                return Some(earlier);
+            }
+            end = self.rows.previous(self.rows.stores, earlier);
+        }
+        None
+    }
+
+    // Whether the access at place `k` is a load that is bound, has no place yet, and is ready for one.
+    fn may_settle(&self, k: usize) -> bool
+        requires { k < length self.now.accesses }
+        ensures { result ≡ settles_now self.now k }
+    {
+        let load = self.known(k);
+        if load.kind != Kind::Load || !load.bound || load.placed {
+            return false;
+        }
+        let Some(a) = load.addr else {
+            return false;
+        };
+        self.is_ready(k, a, load)
     }
 
     // Whether each access before place `k` that must come before this one at `a` has its place.
@@ -229,10 +340,12 @@ impl MemoryQueue {
         requires { k < length self.now.accesses }
         ensures { result ≡ is_ready self.now.model (take k self.now.accesses) a access.now }
     {
-        for place in 0..k {
-            if self.at(place).holds_back(self.model, a, access) {
+        let mut place = self.rows.next(self.rows.unplaced, 0);
+        while place < k {
+            if self.known(place).holds_back(self.model, a, access) {
                 return false;
             }
+            place = self.rows.next(self.rows.unplaced, place + 1);
         }
         true
     }
@@ -243,6 +356,7 @@ fn drop_after(accesses: &mut HeapCircularBuffer<Queued>, seq: u64)
     requires { AreRising accesses.old.items }
     ensures rising { AreRising accesses.new.items }
     ensures left { accesses.new ≡ record accesses.old { items = filter (λ x. nat_le x.seq seq) accesses.old.items } }
+    ensures oldest { accesses.new.items ≡ take (length accesses.new.items) accesses.old.items }
 {
     while is_youngest_after(accesses, seq) {
         accesses.pop_back();

@@ -1,11 +1,10 @@
 // One access in flight.
 ghost use Rattle.std.specs.Prelude.{◌≡◌, ◌||◌, ◌&&◌, not, is_some, Some};
 ghost use Rattle.rsim_base.specs.Accesses.{stores};
-ghost use Rattle.rsim_base.specs.Bytes.{count_of};
-ghost use Rattle.memory_queue.specs.Queues.{access_at, given_by, is_needed, joining, meets, part_within};
+ghost use Rattle.memory_queue.specs.Queues.{access_at, given_by, is_load, is_needed, joining, meets};
 
 use order_axioms::{Fences, needs};
-use rsim_base::{Access, Addr, Kind, Model, Node, Size, overlap};
+use rsim_base::{Access, Addr, Kind, Model, Node, Size, bytes_within, overlap};
 
 /// An access, as far as it is known.
 #[derive(Clone, Copy, Debug, PartialEq, Eq)]
@@ -17,14 +16,12 @@ pub struct Queued {
     pub fences: Fences,
     /// None while it is not known, and where the access traps.
     pub addr: Option<Addr>,
-    /// What a store stores, once it is known; what a load has loaded, once it is bound.
+    /// What a store stores, once it is known.
     pub value: Option<u64>,
     /// Whether it has its place in the order. A store or atomic then is performed.
     pub placed: bool,
     /// Whether a load has its value.
     pub bound: bool,
-    /// Whether that came from a store which was not performed.
-    pub from_store: bool,
 }
 
 impl Queued {
@@ -41,7 +38,6 @@ impl Queued {
             value: None,
             placed: false,
             bound: false,
-            from_store: false,
         }
     }
 
@@ -50,6 +46,27 @@ impl Queued {
         ensures { result ≡ (not (stores self.now.kind) || is_some self.now.addr) }
     {
         !self.kind.stores() || self.addr.is_some()
+    }
+
+    /// Whether it is a store or atomic that is not performed, at an address that is known.
+    pub(crate) fn is_open(&self) -> bool
+        ensures { result ≡ ((stores self.now.kind && not self.now.placed) && is_some self.now.addr) }
+    {
+        self.kind.stores() && !self.placed && self.addr.is_some()
+    }
+
+    /// Whether it is a load that waits for its value, at an address that is known.
+    pub(crate) fn is_waiting(&self) -> bool
+        ensures { result ≡ ((is_load self.now.kind && not self.now.bound) && is_some self.now.addr) }
+    {
+        self.kind == Kind::Load && !self.bound && self.addr.is_some()
+    }
+
+    /// Whether it is a load that has its value, and no place in the order.
+    pub(crate) fn is_settling(&self) -> bool
+        ensures { result ≡ (is_load self.now.kind && (self.now.bound && not self.now.placed)) }
+    {
+        self.kind == Kind::Load && (self.bound && !self.placed)
     }
 
     /// Whether it must come before a later access at `a`. While its own address is not known it counts as overlapping.
@@ -108,15 +125,4 @@ impl Queued {
             stored: 0,
         }
     }
-}
-
-// The `n` bytes of a value of `m` bytes from place `at` on, if it has them.
-fn bytes_within(value: u64, m: Size, at: u64, n: Size) -> Option<u64>
-    ensures { result ≡ part_within value (count_of m) at (count_of n) }
-{
-    let (has, wants) = (m.count(), n.count());
-    if wants > has || at > has - wants {
-        return None;
-    }
-    Some(n.low(value >> (8 * (has - wants - at))))
 }

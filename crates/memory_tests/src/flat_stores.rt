@@ -1,125 +1,33 @@
 // Two nodes on a flat store with lines of 64 bytes, with answers worked by hand.
-ghost use Rattle.std.specs.Prelude.{◌≡◌, ℕ, ◌<◌, ◌≤◌};
-ghost use Rattle.elf64_load.specs.Image.{is_mapped};
-ghost use Rattle.memory_contracts.specs.FlatStores.{flat_of};
-
-use elf64_load::{Image, load};
+use crate::shared::{DATA, Shared, executable};
+use elf64_load::load;
 use machine_config::read;
-use memory_contracts::{CoherentStore, FlatStore, LostList, laws};
-use rsim_base::{Addr, Line, Node, STACKS_START, Size};
-use std::alloc::{AllocError, Global};
+use memory_contracts::{FlatStore, LostList, laws};
+use rsim_base::{Line, Node, STACKS_START, Size};
+use std::alloc::Global;
 use std::process::Abort;
 use std::test::Fail;
 
-const TEXT: u64 = 0x10_0000;
-
-// 20 bytes: the last doubleword and the last line are not whole.
-const DATA: u64 = 0x10_0080;
-
 const STACK: u64 = STACKS_START;
 
-// A store, and the image whose memory it has.
-#[derive(Drop)]
-struct Shared {
-    image: Image,
-    store: FlatStore,
-    ticks: u8,
-    ghost nodes: { (flat_of store).nodes ≡ 2 },
-    ghost line: { (flat_of store).line_bytes ≡ 64 },
-    ghost mapped: { (a : ℕ) → (flat_of store).mapped a ≡ is_mapped image a },
-    ghost few: { (flat_of store).ticks ≤ ticks },
-}
-
-// A program header of a segment in the file and in memory.
-fn append_header(
-    file: &mut Vec<u8>,
-    flags: u32,
-    offset: u64,
-    vaddr: u64,
-    size: u64,
-) -> Result<(), AllocError> {
-    file.extend_from_slice(&1u32.to_be_bytes())?;
-    file.extend_from_slice(&flags.to_be_bytes())?;
-    for word in [offset, vaddr, 0, size, size, 0] {
-        file.extend_from_slice(&word.to_be_bytes())?;
-    }
-    Ok(())
-}
-
-// An executable: two words of text, and 20 bytes of data from 1 up.
-fn executable(alloc: Global) -> Result<Vec<u8>, AllocError> {
-    let mut file = Vec::new(alloc);
-    // e_ident, e_type, e_machine and e_version
-    file.extend_from_slice(b"\x7FELF\x02\x02\x01\0\0\0\0\0\0\0\0\0\0\x02\0\x2B\0\0\0\x01")?;
-    // e_entry, e_phoff, e_shoff
-    for word in [TEXT, 64, 0] {
-        file.extend_from_slice(&word.to_be_bytes())?;
-    }
-    // e_flags, e_ehsize, e_phentsize, e_phnum and the section headers
-    file.extend_from_slice(&[0, 0, 0, 0, 0, 64, 0, 56, 0, 2, 0, 0, 0, 0, 0, 0])?;
-    append_header(&mut file, 5, 176, TEXT, 8)?;
-    append_header(&mut file, 6, 184, DATA, 20)?;
-    file.extend_from_slice(&[0; 8])?;
-    file.extend_from_slice(&[
-        1, 2, 3, 4, 5, 6, 7, 8, 9, 10, 11, 12, 13, 14, 15, 16, 17, 18, 19, 20,
-    ])?;
-    Ok(file)
-}
-
-fn make_shared(rt: &impl Abort, alloc: Global) -> Result<Shared, Fail> {
+fn make_shared(rt: &impl Abort, alloc: Global) -> Result<Shared<FlatStore>, Fail> {
     let image = load(alloc, &executable(alloc)?)?;
     let config = read(alloc, b"processors 2\nmesh_width 2\nline 64\n")?;
-    assert!(rt; config.processors == 2 && config.line == 64);
+    assert!(rt; config.line == 64);
     let store = FlatStore::make(alloc, &image, &config)?;
     Ok(Shared {
         image,
         store,
+        nodes: config.processors,
         ticks: 0,
     })
 }
 
-impl Shared {
-    fn read(&mut self, rt: &impl Abort, p: u8, a: u64, n: Size) -> Option<u64> {
-        assert!(rt; p < 2);
-        assert!(rt; a % n.count() == 0);
-        assert!(rt; self.image.may_read(Addr(a), n));
-        self.store.read(Node(p), Addr(a), n)
-    }
-
-    fn write(&mut self, rt: &impl Abort, p: u8, a: u64, n: Size, v: u64) -> bool {
-        assert!(rt; p < 2);
-        assert!(rt; a % n.count() == 0);
-        assert!(rt; self.image.may_read(Addr(a), n));
-        self.store.write(Node(p), Addr(a), n, v)
-    }
-
-    // A wish for the line of a byte.
-    fn wish(&mut self, rt: &impl Abort, p: u8, a: u64, own: bool) -> bool {
-        assert!(rt; p < 2);
-        assert!(rt; self.image.may_read(Addr(a), Size::B1));
-        self.store.wish(Node(p), Line(a / 64), own)
-    }
-
-    fn tick(&mut self, rt: &impl Abort, lost: &mut LostList) {
-        assert!(rt; self.ticks < 255);
-        self.store.tick(lost);
-        self.ticks += 1;
-    }
-
-    // Whether a node has the line of a byte: it is near exactly where it is owned.
-    fn has(&self, rt: &impl Abort, p: u8, a: u64) -> bool {
-        assert!(rt; p < 2);
-        let (near, owned) = states(&self.store, Node(p), Line(a / 64));
-        assert!(rt; near == owned);
-        near
-    }
-}
-
-// Whether a line is near, and whether it is owned, as generic code asks.
-fn states<S: CoherentStore>(store: &S, p: Node, line: Line) -> (bool, bool)
-    requires { p.0 < (S.meaning store.now).nodes }
-{
-    (store.is_near(p, line), store.is_owned(p, line))
+// Whether a node has the line of a byte: it is near exactly where it is owned.
+fn has(shared: &Shared<FlatStore>, rt: &impl Abort, p: u8, a: u64) -> bool {
+    let (near, owned) = shared.states(rt, p, a);
+    assert!(rt; near == owned);
+    near
 }
 
 #[test]
@@ -155,18 +63,18 @@ fn of_two_wishes_for_a_line_the_second_waits(rt: HostRuntime) -> Result<(), Fail
     assert!(rt; shared.wish(&rt, 1, STACK, true));
     assert!(rt; shared.wish(&rt, 0, STACK + 63, true));
     shared.tick(&rt, &mut lost);
-    assert!(rt; shared.has(&rt, 0, STACK) && !shared.has(&rt, 1, STACK));
+    assert!(rt; has(&shared, &rt, 0, STACK) && !has(&shared, &rt, 1, STACK));
     assert!(rt; lost.is_empty());
     assert!(rt; shared.write(&rt, 0, STACK + 8, Size::B8, 7));
     assert!(rt; !shared.write(&rt, 1, STACK + 8, Size::B8, 8));
     shared.tick(&rt, &mut lost);
-    assert!(rt; !shared.has(&rt, 0, STACK) && shared.has(&rt, 1, STACK));
+    assert!(rt; !has(&shared, &rt, 0, STACK) && has(&shared, &rt, 1, STACK));
     assert!(rt; lost.as_slice() == [(Node(0), Line(STACK / 64))].as_slice());
     assert!(rt; shared.read(&rt, 1, STACK + 8, Size::B8) == Some(7));
     shared.tick(&rt, &mut lost);
     // told once
     assert!(rt; lost.is_empty());
-    assert!(rt; shared.has(&rt, 1, STACK));
+    assert!(rt; has(&shared, &rt, 1, STACK));
     Ok(())
 }
 
@@ -188,7 +96,7 @@ fn a_node_has_sixteen_wishes(rt: HostRuntime) -> Result<(), Fail> {
     // of another node
     assert!(rt; shared.wish(&rt, 1, STACK + 64 * 16, false));
     shared.tick(&rt, &mut lost);
-    assert!(rt; shared.has(&rt, 0, STACK) && !shared.has(&rt, 0, STACK + 64));
+    assert!(rt; has(&shared, &rt, 0, STACK) && !has(&shared, &rt, 0, STACK + 64));
     assert!(rt; shared.wish(&rt, 0, STACK + 64 * 16, false));
     assert!(rt; !shared.wish(&rt, 0, STACK + 64 * 17, false));
     Ok(())

@@ -3,7 +3,7 @@ ghost use Rattle.std.specs.Prelude.{◌≡◌, ◌+◌, ◌%◌, ◌<◌, ◌≤
 ghost use Rattle.arrayvec.specs.ArrayVec.{array_vec_len};
 ghost use Rattle.rsim_base.specs.Bytes.{count_of};
 ghost use Rattle.machine_config.specs.Allowed.{IsAllowed};
-ghost use Rattle.memory_contracts.specs.Letters.{letter_of, said, told};
+ghost use Rattle.memory_contracts.specs.Letters.{letter_of, message_of, said, told};
 ghost use Rattle.memory_contracts.specs.Parts.{wish_of};
 ghost use Rattle.cache_levels.specs.Levels.{held, near, owned};
 ghost use Rattle.miss_registers.specs.Misses.{register_of, registers_full, with_register};
@@ -282,7 +282,7 @@ impl NodeMemory {
     /// The oldest message, with the node that it is for, if there is one.
     pub fn outbox(&self) -> Option<(Node, Message)>
         ensures oldest { option_map told result ≡ slice_get (node_of self.now).outbox 0 }
-        ensures from { IfSome result (λ sent. sent.1.from.0 ≡ (node_of self.now).at) }
+        ensures exactly { IfSome result (λ sent. sent.1 ≡ message_of (node_of self.now).at (told sent)) }
     {
         let post = self.outbox.first()?;
         Some((

@@ -1,6 +1,6 @@
 // What a node says about a line.
 ghost use Rattle.std.specs.Prelude.{◌≡◌};
-ghost use Rattle.memory_contracts.specs.Letters.{said};
+ghost use Rattle.memory_contracts.specs.Letters.{saying};
 
 use memory_contracts::{Message, MsgKind};
 use rsim_base::{LINE_ROOM, Line, Node};
@@ -28,9 +28,7 @@ impl Word {
 
     /// The message from a node that says this about a line.
     pub fn message(&self, line: Line, from: Node) -> Message
-        ensures said { said result ≡ word_of self.now }
-        ensures line { result.line ≡ line }
-        ensures from { result.from ≡ from }
+        ensures { result ≡ saying from.0 line.0 (word_of self.now) }
     {
         let bare = |kind| Message {
             kind,

@@ -1,1 +1,2 @@
 pub mod MaskBits
+pub mod Needed

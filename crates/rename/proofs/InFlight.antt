@@ -17,7 +17,7 @@ use Rattle.rename.specs.Renaming.{IsRenaming, OldsAreBefore, named, olds, times}
 use Rattle.rename.proofs.Times.{one, one_same, times-cons, times-append, times_push, times-set, times_before, times_behind, times_within, length_each_once, times_held, times_two_places}
 
 -- what holds r after t, where `held` held it before
-abbrev after : Renamed → ℕ → ℕ → ℕ
+abbrev pub after : Renamed → ℕ → ℕ → ℕ
 after t r held = if t.reg.0 == r then t.new.0 else held
 
 after_same : (t : Renamed) (r held : ℕ) → t.reg.0 ≡ r → after t r held ≡ t.new.0
@@ -26,7 +26,7 @@ after_same t r held e = ap (λ b. cond b t.new.0 held) (eq-eqb t.reg.0 r e)
 after_other : (t : Renamed) (r held : ℕ) → t.reg.0 ≢ r → after t r held ≡ held
 after_other t r held d = grind (arith, nat_tests)
 
-named-append : (r : ℕ) (ts us : List Renamed) (held : ℕ) → named r (ts ++ us) held ≡ named r us (named r ts held)
+pub named-append : (r : ℕ) (ts us : List Renamed) (held : ℕ) → named r (ts ++ us) held ≡ named r us (named r ts held)
 named-append r [] us held = refl
 named-append r (t ∷ ts) us held = named-append r ts us (after t r held)
 
@@ -92,7 +92,7 @@ take_first retired ts v r x rest h low first =
       no_more = λ y more. same y ∙ h.no_more y (omega (arith, kept));
     }
 
-ok_is_no_err : (t : Renamed) (e : NoneFree) → Ok t ≡ Err e → ⊥
+pub ok_is_no_err : (t : Renamed) (e : NoneFree) → Ok t ≡ Err e → ⊥
 ok_is_no_err t e h = cc
 
 take_by : (retired : ℕ → ℕ) (ts : List Renamed) (v w : NamesView) (r : ℕ) (t : Renamed) → IsRenaming retired ts v → r < arch_registers → (free : List ℕ) → v.free ≡ free → TakesOf r v free (Ok t) w → IsRenaming retired (ts ++ t ∷ []) w
@@ -176,7 +176,7 @@ room_for_each retired ts v h =
 -- ---- which numbers there are
 
 -- what held r before these takes still holds it, or one of them kept it as old
-kept_or_named : (ts : List Renamed) (held : ℕ → ℕ) (r : ℕ) → OldsAreBefore ts held → (named r ts (held r) ≡ held r) ⊎ (1 ≤ times (held r) (olds ts))
+pub kept_or_named : (ts : List Renamed) (held : ℕ → ℕ) (r : ℕ) → OldsAreBefore ts held → (named r ts (held r) ≡ held r) ⊎ (1 ≤ times (held r) (olds ts))
 kept_or_named [] held r h = inl refl
 kept_or_named (t ∷ ts) held r h =
     let rest = kept_or_named ts (λ q. after t q (held q)) r h.2 in

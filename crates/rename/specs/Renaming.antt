@@ -1,5 +1,6 @@
 -- Which register an operand names: that of the youngest earlier writer in flight, or the retired one.
 use Rattle.std.specs.Prelude.{◌≡◌, ℕ, ◌+◌, ◌<◌, ◌≤◌, ◌==◌, ⊤, ◌∷◌, List, [], length, map, count_by, if◌then◌else◌, slice_index}
+use Rattle.std.specs.List.{range_with_len}
 use Rattle.rsim_base.specs.Limits.{arch_registers}
 use Rattle.rsim_base.specs.declared.processor.Renamed.{Renamed}
 use Rattle.rename.specs.Names.{NamesView}
@@ -23,6 +24,13 @@ times x xs = count_by (λ y. y == x) xs
 
 abbrev pub olds : List Renamed → List ℕ
 olds takes = map (λ t. t.old.0) takes
+
+abbrev pub news : List Renamed → List ℕ
+news takes = map (λ t. t.new.0) takes
+
+-- the retired registers
+unfoldable pub retired_registers : (ℕ → ℕ) → List ℕ
+retired_registers retired = map retired (range_with_len 0 arch_registers)
 
 -- these takes are in flight, over these retired registers
 pub record IsRenaming (retired : ℕ → ℕ) (takes : List Renamed) (v : NamesView) : Type 0 where

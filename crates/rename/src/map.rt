@@ -68,6 +68,13 @@ impl RenameMap {
         self.current[usize::from(r.0)]
     }
 
+    /// How many registers are free.
+    pub fn free_count(&self) -> u32
+        ensures { result ≡ length self.now.free }
+    {
+        self.free.len() as u32
+    }
+
     /// Gives an architectural register a free register, which is not written yet.
     ///
     /// # Errors

@@ -1,3 +1,4 @@
+pub mod Entries
 pub mod Bits
 pub mod Ages
 pub mod Turns

@@ -1,1 +1,4 @@
+pub mod Firsts
+pub mod RowLaws
+pub mod Rows
 pub mod Sets

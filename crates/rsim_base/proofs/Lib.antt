@@ -1,1 +1,2 @@
 mod DecimalDigits
+mod Parts

@@ -1,6 +1,6 @@
 -- Which bytes of memory an access touches, and the bytes of a value in memory.
 -- An address has 64 bits, and sums of addresses go round at 2^64. Numbers are big-endian.
-use Rattle.std.specs.Prelude.{◌≡◌, ℕ, ◌+◌, ◌-◌, ◌*◌, ◌/◌, ◌%◌, ◌^◌, ◌<◌, Bool, ◌||◌, nat_lt}
+use Rattle.std.specs.Prelude.{◌≡◌, ℕ, ◌+◌, ◌-◌, ◌*◌, ◌/◌, ◌%◌, ◌^◌, ◌<◌, Bool, ◌||◌, nat_lt, nat_le, if◌then◌else◌, Option, Some, None}
 use Rattle.rsim_base.specs.declared.memory.Size.{Size}
 use Rattle.rsim_base.specs.declared.memory.Size.TheVariants.{B1, B2, B4, B8}
 
@@ -43,3 +43,11 @@ Covers a n b m = (x : ℕ) → IsByteOf x b m → IsByteOf x a n
 -- byte `at` of the low n bytes of a value, the first in memory at 0
 abbrev pub byte_of : ℕ → ℕ → ℕ → ℕ
 byte_of value n at = value / 2 ^ (8 * (n - 1 - at)) % 256
+
+-- the bytes of a value of n bytes from place `at` on, as a number of m bytes
+abbrev pub part : ℕ → ℕ → ℕ → ℕ → ℕ
+part value n at m = value / 2 ^ (8 * (n - (at + m))) % 2 ^ (8 * m)
+
+-- where it has them all
+abbrev pub part_within : ℕ → ℕ → ℕ → ℕ → Option ℕ
+part_within value n at m = if nat_le (at + m) n then Some (part value n at m) else None

@@ -1,7 +1,7 @@
 // Memory as the processors see it: addresses, accesses, and the bytes that they touch.
 ghost use Rattle.std.specs.Prelude.{◌≡◌, ◌≢◌, ◌↔◌, ◌+◌, ◌-◌, ◌*◌, ◌/◌, ◌%◌, ◌^◌, ◌<◌, IsTrue};
 ghost use Rattle.rsim_base.specs.Accesses as accesses;
-ghost use Rattle.rsim_base.specs.Bytes.{count_of, low_bytes, Overlaps, Covers, starts_in, gap_of, byte_of};
+ghost use Rattle.rsim_base.specs.Bytes.{count_of, low_bytes, Overlaps, Covers, starts_in, gap_of, byte_of, part_within};
 
 /// A node of the machine: a processor with its caches and its share of the memory.
 #[derive(Clone, Copy, Debug, Default, PartialEq, Eq)]
@@ -142,6 +142,18 @@ pub fn cut(value: u64, n: Size, at: u64) -> u8
 {
     let below = n.count() - 1 - at;
     ((value >> (8 * below)) % 256) as u8
+}
+
+/// The `n` bytes of a value of `m` bytes from place `at` on, as a number; the first in memory is at 0. `None` where the value
+/// has not all of them.
+pub fn bytes_within(value: u64, m: Size, at: u64, n: Size) -> Option<u64>
+    ensures { result ≡ part_within value (count_of m) at (count_of n) }
+{
+    let (has, wants) = (m.count(), n.count());
+    if wants > has || at > has - wants {
+        return None;
+    }
+    Some(n.low(value >> (8 * (has - wants - at))))
 }
 
 /// The line of `line_bytes` bytes that a byte is in.

@@ -1,3 +1,4 @@
+pub mod InOrder
 pub mod Least
 pub mod NoVictims
 pub mod Performed

@@ -1,12 +1,12 @@
 -- Loads that are bound and not settled.
-use Rattle.std.specs.Prelude.{ℕ, nat_lt, nat_le, min, ◌==◌, not, ◌&&◌, false, Bool, List, [], ◌∷◌, ◌++◌, length, map, filter, if◌then◌else◌, Option, Some, None}
+use Rattle.std.specs.Prelude.{ℕ, nat_lt, nat_le, ◌≤◌, min, ◌==◌, not, ◌&&◌, false, Bool, ⊤, All, List, [], ◌∷◌, ◌++◌, length, map, filter, find, if◌then◌else◌, Option, Some, None, option_map}
 use Rattle.rsim_base.specs.declared.memory.Line.{Line}
 use Rattle.rsim_base.specs.declared.memory.Node.{Node}
 use Rattle.memory_contracts.specs.Store.{is_among}
 use Rattle.settle_watch.specs.declared.watch.Watched.{Watched}
 
 pub record WatchView : Type 0 where
-  -- in the order in which they were bound, which need not be that of the program
+  -- the oldest first
   pub loads : List Watched
   -- at most so many
   pub size : ℕ
@@ -14,9 +14,18 @@ pub record WatchView : Type 0 where
 abbrev pub has_place : WatchView → Bool
 has_place v = nat_lt (length v.loads) v.size
 
+-- numbers do not fall along the list
+abbrev pub AreInOrder : List Watched → Type 0
+AreInOrder [] = ⊤
+AreInOrder (x ∷ xs) = All (λ y. x.seq ≤ y.seq) xs × AreInOrder xs
+
+-- a load stands behind those of lesser numbers
+abbrev pub placed : Watched → List Watched → List Watched
+placed x loads = filter (λ y. nat_lt y.seq x.seq) loads ++ x ∷ filter (λ y. not (nat_lt y.seq x.seq)) loads
+
 abbrev pub watched : ℕ → ℕ → Bool → WatchView → WatchView
 watched seq line from_store v =
-    if has_place v then record v { loads = v.loads ++ record { seq = seq; line = record { 0 = line }; from_store = from_store } ∷ [] } else v
+    if has_place v then record v { loads = placed (record { seq = seq; line = record { 0 = line }; from_store = from_store }) v.loads } else v
 
 -- the value of the load of this number stands in memory now
 abbrev pub store_performed : ℕ → Watched → Watched
@@ -45,6 +54,10 @@ least (x ∷ xs) = least_with x (least xs)
     least_with : ℕ → Option ℕ → Option ℕ
     least_with x None = Some x
     least_with x (Some y) = Some (min x y)
+
+-- the number of the first victim
+abbrev pub first_victim : ℕ → List (Node × Line) → List Watched → Option ℕ
+first_victim p lost loads = option_map (λ x. x.seq) (find (is_victim p lost) loads)
 
 -- the number of the oldest victim
 abbrev pub oldest_victim : ℕ → List (Node × Line) → List Watched → Option ℕ

@@ -1,6 +1,6 @@
 // Loads that are bound and not settled.
-ghost use Rattle.std.specs.Prelude.{◌≡◌, [], IfOk, map};
-ghost use Rattle.settle_watch.specs.Watches.{cut, has_place, is_victim, oldest_victim, settled, store_performed, watched, without_store};
+ghost use Rattle.std.specs.Prelude.{◌≡◌, ◌<◌, ◌≤◌, [], IfOk, map, vec_capacity, vec_len};
+ghost use Rattle.settle_watch.specs.Watches.{AreInOrder, cut, first_victim, has_place, is_victim, oldest_victim, placed, settled, store_performed, watched, without_store};
 
 use memory_contracts::LostList;
 use rsim_base::{Line, NoMemory, Node};
@@ -29,19 +29,20 @@ impl Watched {
 /// long as its line stays. Each is known by the number of its instruction. No call but `make` takes memory.
 #[derive(Drop)]
 pub struct SettleWatch {
+    // The oldest first.
     loads: Vec<Watched>,
     size: u32,
 }
 
 impl Model for SettleWatch {
     ghost use Rattle.std.specs.Prelude.{◌≤◌, vec_capacity};
-    ghost use Rattle.settle_watch.specs.Watches.{WatchView};
+    ghost use Rattle.settle_watch.specs.Watches.{AreInOrder, WatchView};
 
     ghost Value = { WatchView };
 
     ghost view = { λ w. record { loads = w.loads.items; size = w.size } };
 
-    ghost invariant = { λ w. w.size ≤ vec_capacity w.loads };
+    ghost invariant = { λ w. (w.size ≤ vec_capacity w.loads) × AreInOrder w.loads.items };
 }
 
 impl SettleWatch {
@@ -64,11 +65,12 @@ impl SettleWatch {
     {
         let has_place = self.loads.len() < self.size as usize;
         if has_place {
-            self.loads.push_reserved(Watched {
+            let load = Watched {
                 seq,
                 line,
                 from_store,
-            });
+            };
+            place(&mut self.loads, load);
         }
         has_place
     }
@@ -91,17 +93,14 @@ impl SettleWatch {
     /// The number of the oldest load whose line node `p` has lost, and whose value came from no store that is still to be
     /// performed. `None` where there is none.
     pub fn victims(&self, p: Node, lost: &LostList) -> Option<u64>
-        ensures { result ≡ oldest_victim p.0 lost.now.items self.now.loads }
+        ensures first { result ≡ first_victim p.0 lost.now.items self.now.loads }
+        ensures oldest { result ≡ oldest_victim p.0 lost.now.items self.now.loads }
     {
         let lost = lost.as_slice();
         if !lost.iter().any(|(q, _)| *q == p) {
             return None;
         }
-        self.loads
-            .iter()
-            .filter(|load| load.is_victim(p, lost))
-            .map(|load| load.seq)
-            .min()
+        first_of(self.loads.as_slice(), p, lost)
     }
 
     /// Watches no load any more whose number is greater.
@@ -109,6 +108,29 @@ impl SettleWatch {
         ensures { self.new ≡ cut seq self.old }
     {
         self.loads.retain(|load| load.seq <= seq);
+    }
+}
+
+// The number of the first victim.
+fn first_of(loads: &[Watched], p: Node, lost: &[(Node, Line)]) -> Option<u64>
+    ensures { result ≡ first_victim p.0 lost.now loads.now }
+{
+    loads
+        .iter()
+        .find(|load| load.is_victim(p, lost))
+        .map(|load| load.seq)
+}
+
+// Puts a load behind those of lesser numbers.
+fn place(loads: &mut Vec<Watched>, load: Watched)
+    requires room { vec_len loads.old < vec_capacity loads.old }
+    requires order { AreInOrder loads.old.items }
+    ensures items { loads.new.items ≡ placed load loads.old.items }
+    ensures capacity { vec_capacity loads.old ≤ vec_capacity loads.new }
+{
+    let at = loads.iter().filter(|other| other.seq < load.seq).count();
+    if loads.insert(at, load).is_err() {
+        unreachable!();
     }
 }
 

@@ -21,7 +21,7 @@ use Rattle.sparc_meaning.proofs.Telling.{spills_asked, fills_asked}
 
 -- ---- registers
 
-if_named : (b : Bool) (r : ℕ) → r < 32 → IfSome (if b then Some r else None) (λ n. n < 32)
+pub if_named : (b : Bool) (r : ℕ) → r < 32 → IfSome (if b then Some r else None) (λ n. n < 32)
 if_named true r below = below
 if_named false r below = tt
 

@@ -7,6 +7,8 @@ pub mod Fetched
 pub mod Forms
 pub mod KeptWindows
 pub mod Laws
+pub mod RegisterLaws
+pub mod Registers
 pub mod Run
 pub mod Runs
 pub mod Step

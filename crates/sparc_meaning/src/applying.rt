@@ -75,7 +75,7 @@ impl Arch {
         requires fetched { IsFetched f.now }
         ensures { self.new ≡ spec.advanced f.now c.now loaded self.old }
     {
-        let named = f.dest();
+        let named = f.named_dest();
         if let Some(r) = named.reg {
             self.set_register_of(f.written_in(), r, f.result(c, loaded));
         }
@@ -97,7 +97,7 @@ impl Operands {
         requires fetched { IsFetched f.now }
         ensures { result ≡ part.operands f.now arch.now }
     {
-        let named = f.sources();
+        let named = f.named_sources();
         let window = f.read_in();
         Operands {
             a: arch.value_at(named.a, window),
@@ -125,8 +125,8 @@ impl Fetched {
         }
     }
 
-    // What it reads.
-    fn sources(&self) -> Sources
+    /// What it reads.
+    pub(crate) fn named_sources(&self) -> Sources
         requires fetched { IsFetched self.now }
         ensures value { result ≡ part.sources_by self.now.part self.now.instr }
         ensures first { IfSome result.a (λ r. r < 32) }
@@ -152,8 +152,8 @@ impl Fetched {
         }
     }
 
-    // The window whose registers it reads.
-    fn read_in(&self) -> u8
+    /// The window whose registers it reads.
+    pub(crate) fn read_in(&self) -> u8
         requires fetched { IsFetched self.now }
         ensures value { result ≡ part.read_in self.now.part self.now.window }
         ensures window { result < 8 }
@@ -165,8 +165,8 @@ impl Fetched {
         }
     }
 
-    // What it writes.
-    fn dest(&self) -> Dest
+    /// What it writes.
+    pub(crate) fn named_dest(&self) -> Dest
         requires fetched { IsFetched self.now }
         ensures value { result ≡ part.dest_by self.now.part self.now.instr }
         ensures register { IfSome result.reg (λ r. r < 32) }
@@ -214,8 +214,8 @@ impl Fetched {
         }
     }
 
-    // The window whose register it writes.
-    fn written_in(&self) -> u8
+    /// The window whose register it writes.
+    pub(crate) fn written_in(&self) -> u8
         requires fetched { IsFetched self.now }
         ensures value { result ≡ part.written_in self.now.part self.now.instr self.now.window }
         ensures window { result < 8 }

@@ -12,6 +12,7 @@ mod fetched;
 mod fetching;
 mod from_operands;
 pub mod laws;
+mod registers;
 mod start;
 mod traps;
 mod wants;

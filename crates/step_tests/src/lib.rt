@@ -15,6 +15,8 @@ mod control;
 #[cfg(test)]
 mod paths;
 #[cfg(test)]
+mod registers;
+#[cfg(test)]
 mod renaming;
 #[cfg(test)]
 mod results;

@@ -179,6 +179,7 @@ const FIRST: (u8, u8, u8) = (0, 6, 0);
 #[test]
 fn straight_on_from_the_entry(rt: HostRuntime) -> Result<(), Fail> {
     laws::guesses_that_are_right_lead_on();
+    laws::the_path_is_that_of_the_steps();
     let mut tested = made(rt.alloc(), &[NOP, 0x9002_0009, NOP])?;
     for at in 0..3 {
         tested.check_run(&rt, (at, at + 1), Some((at + 1, at + 2)), FIRST);

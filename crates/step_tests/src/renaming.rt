@@ -224,7 +224,10 @@ fn the_first_registers_hold_the_state(rt: HostRuntime) -> Result<(), Fail> {
 #[test]
 fn registers_come_round(rt: HostRuntime) -> Result<(), Fail> {
     laws::operands_name_their_writers();
+    laws::holders_keep_their_values();
+    laws::operands_in_flight_are_named();
     let mut core = Core::make(rt.alloc())?;
+    assert!(rt; core.map.free_count() == 3);
     for &(r, taken) in &[
         (5, Some((138, 5))),
         (5, Some((139, 138))),
@@ -233,9 +236,9 @@ fn registers_come_round(rt: HostRuntime) -> Result<(), Fail> {
     ] {
         assert!(rt; core.take(r)? == taken, "register {r}");
     }
-    assert!(rt; core.lookup(5) == Some(139));
+    assert!(rt; core.lookup(5) == Some(139) && core.map.free_count() == 0);
     core.write(139, 9);
-    assert!(rt; core.retire());
+    assert!(rt; core.retire() && core.map.free_count() == 1);
     assert!(rt; core.undo());
     assert!(rt; core.lookup(137) == Some(137));
     assert!(rt; core.take(6)? == Some((5, 6)));
@@ -255,6 +258,7 @@ fn none_and_most_are_free(rt: HostRuntime) -> Result<(), Fail> {
     assert!(rt; map.take(ArchReg(0)).is_err());
     assert!(rt; map.lookup(ArchReg(0)) == PhysReg(0));
     let mut map = RenameMap::make(rt.alloc(), 65_398, &state())?;
+    assert!(rt; map.free_count() == 65_398);
     let mut last = None;
     for _ in 0..65_398u16 {
         last = map.take(ArchReg(1)).ok();

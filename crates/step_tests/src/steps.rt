@@ -116,8 +116,8 @@ pub(crate) fn trapped(number: u16, arch: Arch) -> Arch {
     }
 }
 
-// What `step` and `peek` ask of a state.
-fn is_sound(arch: &Arch) -> bool
+/// What `step` and `peek` ask of a state.
+pub(crate) fn is_sound(arch: &Arch) -> bool
     ensures { IsTrue result → IsSound arch.now }
 {
     let in_phase = match arch.phase {

@@ -1,10 +1,11 @@
 // Retired stores that wait to be performed.
-ghost use Rattle.std.specs.Prelude.{◌≡◌, ◌<◌, ◌≤◌, [], IfOk, IfSome, length, option_copied, option_map, slice_get, vec_capacity, vec_len};
+ghost use Rattle.std.specs.Prelude.{◌≡◌, ◌<◌, ◌≤◌, [], IfOk, IfSome, Some, length, option_copied, option_map, slice_get, vec_capacity, vec_len};
 ghost use Rattle.store_buffer.specs.Buffers as buffers;
-ghost use Rattle.store_buffer.specs.Buffers.{Removes, first_performable, PushesOf};
+ghost use Rattle.list_facts.specs.Least.{IsGreatest, IsLeast};
+ghost use Rattle.store_buffer.specs.Buffers.{PushesOf, Removes, given, is_free_at, is_met_at, lets, meets};
 
 use order_axioms::{Fences, needs};
-use rsim_base::{Access, Model, NoMemory};
+use rsim_base::{Access, Addr, Model, NoMemory, Size, bytes_within, overlap};
 use std::alloc::Global;
 use thiserror::Error;
 
@@ -71,10 +72,31 @@ impl StoreBuffer {
     /// The place of the first store from place `from` on that no earlier store of the buffer must come before. `None` where
     /// there is none.
     pub fn performable(&self, m: Model, from: u32) -> Option<u32>
-        ensures { result ≡ first_performable m from self.now.stores }
+        ensures { IsLeast from (is_free_at m self.now.stores) (length self.now.stores) result }
     {
         let free = first_free(m, self.stores.as_slice(), from as usize)?;
         Some(free as u32)
+    }
+
+    /// Whether no store of the buffer must come before this access, which its program made later, after so many fences.
+    pub fn lets(&self, m: Model, a: &Access, f: &Fences) -> bool
+        ensures { result ≡ lets m a.now f.now self.now.stores }
+    {
+        let later = Waiting {
+            access: *a,
+            fences: *f,
+        };
+        is_free(m, self.stores.as_slice(), &later)
+    }
+
+    /// The place of the youngest store at one of the `n` bytes from `a` on, and those bytes as it stores them: none where it
+    /// does not store them all. `None` where no store is at one of them.
+    pub fn meets(&self, a: Addr, n: Size) -> Option<(u32, Option<u64>)>
+        ensures youngest { IsGreatest (is_met_at a n self.now.stores) (length self.now.stores) (option_map (λ x. x.0) result) }
+        ensures bytes { IfSome result (λ x. option_map (given a n) (slice_get self.now.stores x.0) ≡ Some x.1) }
+    {
+        let k = youngest_met(self.stores.as_slice(), a, n)?;
+        Some((k as u32, bytes_given(&self.stores[k], a, n)))
     }
 
     /// The store with `k` older ones. `None` where there is none.
@@ -114,8 +136,7 @@ impl StoreBuffer {
 
 // The first place from `from` on whose store no earlier one must come before.
 fn first_free(m: Model, stores: &[Waiting], from: usize) -> Option<usize>
-    ensures place { result ≡ first_performable m from stores.now }
-    ensures within { IfSome result (λ k. k < length stores.now) }
+    ensures { IsLeast from (is_free_at m stores.now) (length stores.now) result }
 {
     for k in from..stores.len() {
         if is_free(m, &stores[..k], &stores[k]) {
@@ -137,4 +158,31 @@ fn is_needed(m: Model, x: &Waiting, y: &Waiting) -> bool
     ensures { result ≡ buffers.is_needed m x.now y.now }
 {
     needs(m, &x.access, &x.fences, &y.access, &y.fences)
+}
+
+// The place of the youngest store at one of the `n` bytes from `a` on.
+fn youngest_met(stores: &[Waiting], a: Addr, n: Size) -> Option<usize>
+    ensures { IsGreatest (is_met_at a n stores.now) (length stores.now) result }
+{
+    for k in (0..stores.len()).rev() {
+        if is_met(&stores[k], a, n) {
+            return Some(k);
+        }
+    }
+    None
+}
+
+// Whether it stores at one of the `n` bytes from `a` on.
+fn is_met(store: &Waiting, a: Addr, n: Size) -> bool
+    ensures { result ≡ meets a n store.now }
+{
+    overlap(store.access.addr, store.access.size, a, n)
+}
+
+// The `n` bytes from `a` on, where it stores them all.
+fn bytes_given(store: &Waiting, a: Addr, n: Size) -> Option<u64>
+    ensures { result ≡ given a n store.now }
+{
+    let gap = a.0.wrapping_sub(store.access.addr.0);
+    bytes_within(store.access.stored, store.access.size, gap, n)
 }

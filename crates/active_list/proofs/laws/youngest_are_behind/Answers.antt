@@ -1,3 +1,4 @@
+use Rattle.active_list.proofs.Numbers.{change_keeps_rising}
 use Rattle.active_list.proofs.Rising.{none_is_after, push_keeps, retire_keeps, pops_keep}
 use Rattle.active_list.proofs.laws.youngest_are_behind.Goals as goal
 
@@ -12,3 +13,6 @@ returns-clause-retire c = retire_keeps
 
 pub returns-clause-pops : goal.returns-clause-pops
 returns-clause-pops c = pops_keep
+
+pub returns-clause-change : goal.returns-clause-change
+returns-clause-change c = change_keeps_rising

@@ -3,7 +3,7 @@ use Rattle.std.proofs.Common.{◌≡◌, refl, sym, ap, ◌∙◌, filter, nat_l
 use Rattle.circular_buffer.specs.Buffer.{Buffer, last_item}
 use Rattle.memory_queue.specs.Queues.{is_after}
 use Rattle.memory_queue.specs.declared.queued.Queued.{Queued}
-use Rattle.memory_queue.proofs.Cutting.{filter-after, filter-kept, rising-without_last}
+use Rattle.memory_queue.proofs.Cutting.{filter-after, filter-kept, oldest-less, rising-without_last}
 use Rattle.memory_queue.proofs.queue.drop_after.Goals as goal
 
 pub loop-accesses-preserved : goal.loop-accesses-preserved
@@ -12,6 +12,7 @@ loop-accesses-preserved c =
     record {
       rising = rw c.pop_back.ensures.items (rising-without_last _ c.loop-accesses.invariant.rising);
       left = ap (λ (b : Buffer Queued). filter (λ (x : Queued). nat_le x.seq c.args.seq) b.items) c.pop_back.ensures.items ∙ filter-after c.args.seq c.loop-accesses.accesses.items _ refl after ∙ c.loop-accesses.invariant.left;
+      oldest = oldest-less c.loop-accesses.accesses.items c.args.accesses.now.items _ (ap (λ (b : Buffer Queued). b.items) c.pop_back.ensures.items) c.loop-accesses.invariant.oldest;
       places = ap (λ (b : Buffer Queued). b.capacity) c.pop_back.ensures.items ∙ c.loop-accesses.invariant.places;
     }
 

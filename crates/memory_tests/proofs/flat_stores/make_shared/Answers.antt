@@ -8,7 +8,7 @@ invariant_of-result g c =
     let line = start.line_bytes in
     let ticks = start.ticks in
     record {
-      nodes = omega (arith, nodes);
+      count = nodes;
       line = omega (arith, line);
       mapped = λ a. ap (λ (f : ℕ → Bool). f a) start.mapped;
       few = omega (arith, ticks);

@@ -14,10 +14,9 @@ run_cycles-requires-clause-few c = few_cycles c.args.config c.args.cycles (sizes
 
 pub make-requires-3-clause-serves : goal.make-requires-3-clause-serves
 make-requires-3-clause-serves c =
-    let start = c.in_ok-store.ensures.start in
+    let start = c.in_ok-store.ensures in
     record {
       bytes = start.bytes;
-      small = λ a fits. c.in_ok-store.ensures.bytes a;
       mapped = start.mapped;
       nodes = start.nodes;
       line_bytes = start.line_bytes;
@@ -32,7 +31,7 @@ returns c =
     HasRun-closed image c.args.config c.args.cycles first last (shared_view c.close.new.self) c.close.ensures.view (record {
       made = record {
         start = subst (λ (i : ImageView). IsAtStart i first) c.in_ok-machine.ensures.image c.in_ok-machine.ensures.start;
-        store = subst (IsStart image c.args.config) (sym c.in_ok-machine.ensures.store) c.in_ok-store.ensures.start;
+        store = subst (IsStart image c.args.config) (sym c.in_ok-machine.ensures.store) c.in_ok-store.ensures;
         count = c.in_ok-machine.ensures.count;
       };
       runs_on = subst (λ (i : ImageView). RunsOn i c.args.cycles first last) c.in_ok-machine.ensures.image c.in_ok-run_cycles.ensures.ran;

@@ -1,6 +1,6 @@
-use Rattle.std.proofs.Common.{◌≡◌, take, drop}
-use Rattle.store_buffer.specs.Buffers.{first_performable, free_from}
+use Rattle.std.proofs.Common.{◌≡◌, ℕ, ◌<◌, ◌≤◌, false}
+use Rattle.store_buffer.specs.Buffers.{is_free_at}
 use Rattle.store_buffer.proofs.buffer.first_free.Given as goal
 
 abbrev pub invariant-loop-k : goal.invariant-loop-k
-invariant-loop-k l = first_performable l.m l.from l.stores ≡ free_from l.m l.from (take l.k l.stores) (drop l.k l.stores)
+invariant-loop-k l = (j : ℕ) → l.from ≤ j → j < l.k → is_free_at l.m l.stores j ≡ false

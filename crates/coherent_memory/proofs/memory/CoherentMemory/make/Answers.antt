@@ -9,17 +9,7 @@ invariant_of-result g c =
     let f = c.in_ok-fabric.fabric in
     let first = c.in_ok-fabric.ensures in
     let laws = c.lines_stay_coherent.ensures in
-    record {
-      whole = made-whole laws.lists laws.order laws.current g.C.Carrier.meaning c.args.image.now c.args.config.now f c.spans.result.now c.in-Ok.spans.items c.from.result
-          (record { allowed = c.requires.allowed; first = first.first; count = first.count; ticks = first.ticks; copied = c.in-Ok.ensures.items; spans = c.spans.ensures; line = c.from.ensures });
-      sound = fabric-sound c.tables_follow.ensures.held laws.alone g.C.Carrier.meaning f (shape_of f.count c.in-Ok.spans.items c.from.result) 0 refl f.node_count f.fine;
-    }
-
-pub returns : goal.returns
-returns g c =
-    let first = c.in_ok-fabric.ensures in
-    let laws = c.lines_stay_coherent.ensures in
-    let made : AreMade g.C.Carrier.meaning c.args.image.now c.args.config.now c.in_ok-fabric.fabric c.spans.result.now c.in-Ok.spans.items c.from.result = record {
+    let made : AreMade g.C.Carrier.meaning c.args.image.now c.args.config.now f c.spans.result.now c.in-Ok.spans.items c.from.result = record {
       allowed = c.requires.allowed;
       first = first.first;
       count = first.count;
@@ -28,7 +18,22 @@ returns g c =
       spans = c.spans.ensures;
       line = c.from.ensures;
     } in
+    let small = made-small laws.lists laws.order laws.current g.C.Carrier.meaning c.args.image.now c.args.config.now f c.spans.result.now c.in-Ok.spans.items c.from.result made in
     record {
-      start = made-start laws.lists laws.order laws.current g.C.Carrier.meaning c.args.image.now c.args.config.now c.in_ok-fabric.fabric c.spans.result.now c.in-Ok.spans.items c.from.result made;
-      bytes = made-small laws.lists laws.order laws.current g.C.Carrier.meaning c.args.image.now c.args.config.now c.in_ok-fabric.fabric c.spans.result.now c.in-Ok.spans.items c.from.result made;
+      whole = made-whole laws.lists laws.order laws.current g.C.Carrier.meaning c.args.image.now c.args.config.now f c.spans.result.now c.in-Ok.spans.items c.from.result made;
+      sound = fabric-sound c.tables_follow.ensures.held laws.alone g.C.Carrier.meaning f (shape_of f.count c.in-Ok.spans.items c.from.result) 0 refl f.node_count f.fine small;
     }
+
+pub returns : goal.returns
+returns g c =
+    let first = c.in_ok-fabric.ensures in
+    let laws = c.lines_stay_coherent.ensures in
+    made-start laws.lists laws.order laws.current g.C.Carrier.meaning c.args.image.now c.args.config.now c.in_ok-fabric.fabric c.spans.result.now c.in-Ok.spans.items c.from.result (record {
+      allowed = c.requires.allowed;
+      first = first.first;
+      count = first.count;
+      ticks = first.ticks;
+      copied = c.in-Ok.ensures.items;
+      spans = c.spans.ensures;
+      line = c.from.ensures;
+    })

@@ -8,6 +8,7 @@ use Rattle.coherent_memory.proofs.Fabrics.{nodes-sound}
 use Rattle.coherent_memory.proofs.Memories.{fabric-sound, whole-node}
 use Rattle.coherent_memory.proofs.ReadStore.{read-recency, read-store, read-value}
 use Rattle.coherent_memory.proofs.memory.CoherentMemoryCoherentStore.read.Goals as goal
+use Rattle.coherent_memory.proofs.Smallness.{small-along}
 
 pub invariant_of-self : goal.invariant_of-self
 invariant_of-self g c =
@@ -20,9 +21,12 @@ invariant_of-self g c =
     let old = shape_of m.fabric.count m.spans.items m.line_bytes in
     let shape = ap (λ (n : ℕ). shape_of n m.spans.items m.line_bytes) (sym c.read.ensures.count) in
     let same = read-recency c.args.a.0 (s.nodes p) in
+    let sound = nodes-sound m.fabric.nodes p (subst (λ n. p < n) (sym m.fabric.node_count) c.requires.node) in
+    let stays = ap (λ (n : ℕ). store_of (shape_of n m.spans.items m.line_bytes) m.ticks t) c.read.ensures.count
+    ∙ read-store c.tables_follow.ensures.read c.nearness_stays.ensures.read old m.ticks s t p c.args.a.0 sound c.read.ensures.after c.read.ensures.kept in
     record {
       whole = subst (λ (h : Shape). IsWhole h m.ticks t) shape (whole-node old m.ticks s t p (after_read c.args.a.0 (s.nodes p)) c.read.ensures.after same.bytes same.coming m.whole);
-      sound = fabric-sound c.tables_follow.ensures.held c.lines_stay_coherent.ensures.alone meaning f (shape_of f.count m.spans.items m.line_bytes) m.ticks refl f.node_count f.fine;
+      sound = fabric-sound c.tables_follow.ensures.held c.lines_stay_coherent.ensures.alone meaning f (shape_of f.count m.spans.items m.line_bytes) m.ticks refl f.node_count f.fine (small-along (store_of old m.ticks s) (store_of (shape_of f.count m.spans.items m.line_bytes) m.ticks t) stays m.sound.small);
     }
 
 pub returns-clause-value : goal.returns-clause-value
@@ -45,3 +49,8 @@ returns-clause-stays g c =
     let sound = nodes-sound m.fabric.nodes p (subst (λ n. p < n) (sym m.fabric.node_count) c.requires.node) in
     ap (λ (n : ℕ). store_of (shape_of n m.spans.items m.line_bytes) m.ticks t) c.read.ensures.count
     ∙ read-store c.tables_follow.ensures.read c.nearness_stays.ensures.read (shape_of m.fabric.count m.spans.items m.line_bytes) m.ticks s t p c.args.a.0 sound c.read.ensures.after c.read.ensures.kept
+
+pub returns-clause-told : goal.returns-clause-told
+returns-clause-told g c =
+    let m = c.args.self.now in
+    λ i. record { shape = shape_of (c.read.ensures.count i) m.spans.items m.line_bytes; ticks = m.ticks; system = c.read.ensures.after i }

@@ -22,9 +22,14 @@ invariant_of-result g c =
           c.requires.serves c.in_ok-processors.ensures.count sizes.processors.1 c.from.ensures sizes.line.0 c.in_ok-log.ensures c.in_ok-processors.ensures.sound c.in_ok-processors.ensures.first;
     }
 
+pub returns-clause-start : goal.returns-clause-start
+returns-clause-start g c =
+    IsAtStart-made c.args.image c.args.config (g.M.CoherentStore.meaning c.args.store) (views_of c.in_ok-processors.processors.items) c.in_ok-log.log.places
+    (g.met.M.CoherentStore.sound c.args.store) c.requires.serves c.in_ok-processors.ensures.count c.in_ok-log.ensures c.in_ok-processors.ensures.first
+
 pub returns-clause-stands : goal.returns-clause-stands
 returns-clause-stands g c model =
     let cores = views_of c.in_ok-processors.processors.items in
     let v = g.M.CoherentStore.meaning c.args.store in
     Stands-start c.args.image model (machine_view c.in_ok-processors.processors.items v c.in_ok-log.log.places 0)
-    (IsAtStart-made c.args.image c.args.config v cores c.in_ok-log.log.places c.requires.serves c.in_ok-processors.ensures.count c.in_ok-log.ensures c.in_ok-processors.ensures.first)
+    (IsAtStart-made c.args.image c.args.config v cores c.in_ok-log.log.places (g.met.M.CoherentStore.sound c.args.store) c.requires.serves c.in_ok-processors.ensures.count c.in_ok-log.ensures c.in_ok-processors.ensures.first)

@@ -11,7 +11,7 @@ invariant_of-result c =
     let nodes = sizes.processors.1 in
     record {
       few = omega (arith, nodes);
-      known = known-fresh n c.args.image.now c.of-share.result.line_bytes c.in_ok-records.records c.in_ok-records.ensures.fresh;
+      known = known-fresh n c.args.image.now c.of-share.result c.in_ok-records.records c.in_ok-records.ensures.fresh;
       asked = from-none n (letters_in c.in_ok-waiting.waiting) c.in_ok-waiting.ensures.none;
       places = omega (arith, c.in_ok-waiting.ensures.most);
     }

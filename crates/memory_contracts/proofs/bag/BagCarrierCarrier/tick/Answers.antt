@@ -21,5 +21,5 @@ returns-clause-ticks c =
     let P : CarrierView → Type 0 = λ v. CarrierTicks (bag_of s) v in
     subst P (sym (ticked-is s.mesh s.ticks s.packets.items)) (ticks-ticked s.mesh s.ticks s.packets.items)
 
-pub returns-clause-exactly : goal.returns-clause-exactly
-returns-clause-exactly c = let s = c.args.self.now in ticked-is s.mesh s.ticks s.packets.items
+pub returns-clause-moves : goal.returns-clause-moves
+returns-clause-moves c = let s = c.args.self.now in ticked-is s.mesh s.ticks s.packets.items

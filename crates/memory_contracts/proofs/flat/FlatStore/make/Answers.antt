@@ -1,4 +1,4 @@
-use Rattle.std.proofs.Common.{◌≡◌, ℕ, ◌/◌, ◌≤◌, true, ◌||◌, List, length, refl, sym, ap, subst, ◌∙◌, arith}
+use Rattle.std.proofs.Common.{◌≡◌, ℕ, ◌/◌, ◌≤◌, true, true≢false, ◌||◌, List, length, refl, sym, ap, subst, ◌∙◌, arith}
 use Rattle.std.specs.List.{All, list_any}
 use Rattle.std.proofs.lemmas.Bool.{and_parts}
 use Rattle.std.proofs.lemmas.List.Elements.{All-nil}
@@ -48,6 +48,7 @@ invariant_of-result c =
             ∙ (and_parts (has_doubleword memory (a / 8)) (has_line owners (a / 8 / (line_bytes / 8))) (c.in_ok-memory.ensures.there a (sym (same a) ∙ mapped))).1;
         known = λ p. subst Known (sym (none p)) (All-nil (λ (w : Wanted). has_line owners w.line.0 ≡ true));
         few = λ p. subst Few (sym (none p)) (omega arith);
+        owned = λ p l at. absurd (true≢false (sym at ∙ is_at-none (owner_in owners l) p (c.in_ok-memory.ensures.fresh.free l)));
       };
     }
 

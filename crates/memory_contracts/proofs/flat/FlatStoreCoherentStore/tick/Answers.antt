@@ -12,4 +12,5 @@ returns c =
     let v = flat_of c.args.self.now in
     let P : List (Node × Line) → Type 0 = λ lost. Ticks (store_of v) (store_of (ticked v)) lost in
     let Q : FlatView → Type 0 = λ w. Ticks (store_of v) (store_of w) c.exchange.new.lost.items in
-    record { ticks = subst Q (sym c.exchange.ensures.moves) (subst P (sym c.exchange.ensures.lost) (ticks-ticked v)) }
+    let ticks = subst Q (sym c.exchange.ensures.moves) (subst P (sym c.exchange.ensures.lost) (ticks-ticked v)) in
+    record { ticks = ticks; told = ticks }

@@ -4,7 +4,7 @@ use Rattle.std.proofs.lemmas.List.{length-map}
 use Rattle.std.proofs.lemmas.List.Elements.{All-append}
 use Rattle.memory_contracts.specs.Store.{StoreView, Wish}
 use Rattle.memory_contracts.specs.Flat.{store_of}
-use Rattle.memory_contracts.specs.FlatLayout.{mapped_in}
+use Rattle.memory_contracts.specs.FlatLayout.{AreOwned, mapped_in}
 use Rattle.memory_contracts.specs.FlatStores.{flat_of}
 use Rattle.memory_contracts.specs.Parts.{byte_in, has_line, owner_in, wanted_in, wish_of, wishes_of}
 use Rattle.memory_contracts.specs.declared.wishes.Wanted.{Wanted}
@@ -34,6 +34,7 @@ invariant_of-self c =
         lines = k.lines;
         known = subst Known (sym c.push.ensures.wishes) (known-with has wanted p (wanted p ++ w ∷ []) k.known (All-append (λ (w : Wanted). has w.line.0 ≡ true) (wanted p) (w ∷ []) (k.known p) one));
         few = subst Few (sym c.push.ensures.wishes) (few-with wanted p (wanted p ++ w ∷ []) k.few (omega (arith, room, c.count.ensures)));
+        owned = subst (λ (n : ℕ). AreOwned n (owner_in c.args.self.now.owners)) (sym c.push.ensures.nodes) k.owned;
       };
     }
 
@@ -58,3 +59,6 @@ returns-clause-after c =
     let room = length-map (wanted p) wish_of in
     (λ i. at (wishes i) (c.push.ensures.nodes i))
     ∙ sym (after_wish-new (store_of (flat_of s)) p c.args.line.0 c.args.own (sym c.cover.ensures ∙ c.if-cover.false) (omega (arith, room, c.count.ensures)))
+
+pub returns-clause-told : goal.returns-clause-told
+returns-clause-told c = returns-clause-after c

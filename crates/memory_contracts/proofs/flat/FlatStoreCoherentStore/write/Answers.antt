@@ -12,5 +12,6 @@ invariant_of-self c =
         lines = k.lines;
         known = k.known;
         few = k.few;
+        owned = k.owned;
       };
     }

@@ -8,10 +8,10 @@ pub returns-then-access-seq-clause-changed : goal.returns-then-access-seq-clause
 returns-then-access-seq-clause-changed c = λ change.
     let q = c.args.self.now in
     let rising : AreRising q.accesses = subst AreRising (ap (λ (v : QueueView). v.accesses) c.self.view_is) c.self.invariant.0 in
-    ap (λ (xs : List Queued). record q { accesses = xs }) (changed-at c.args.seq change q.accesses c.loop-place.place c.at-access.result.now rising c.at-access.ensures c.if-access-seq.true)
+    ap (λ (xs : List Queued). record q { accesses = xs }) (changed-at c.args.seq change q.accesses c.loop-place.place c.known-access.result.now rising c.known-access.ensures c.if-access-seq.true)
 
 pub loop-place-preserved : goal.loop-place-preserved
-loop-place-preserved c = none-more c.args.seq c.args.self.now.accesses c.loop-place.place c.at-access.result.now c.at-access.ensures c.if-access-seq.false c.loop-place.invariant
+loop-place-preserved c = none-more c.args.seq c.args.self.now.accesses c.loop-place.place c.known-access.result.now c.known-access.ensures c.if-access-seq.false c.loop-place.invariant
 
 pub returns-clause-none : goal.returns-clause-none
 returns-clause-none c = λ none change.

@@ -1,0 +1,30 @@
+use Rattle.std.proofs.Common.{◌+◌, ◌≤◌, length, subst, sym, ap, ◌∙◌, arith}
+use Rattle.memory_queue.specs.Queues.{QueueView, settles_now}
+use Rattle.memory_queue.specs.Rows.{AreRows}
+use Rattle.memory_queue.proofs.Picking.{none-on, none-settling}
+use Rattle.memory_queue.proofs.queue.MemoryQueue.settles.Goals as goal
+
+pub loop-k-init : goal.loop-k-init
+loop-k-init c =
+    let rows : AreRows c.self.inside.rows c.args.self.now.accesses = subst (AreRows c.self.inside.rows) (ap (λ (v : QueueView). v.accesses) c.self.view_is) c.self.invariant.3 in
+    let next = c.next-k.ensures in
+    let long = ap (λ (v : QueueView). length v.accesses) c.self.view_is in
+    record {
+      behind = next.behind (omega (arith, c.if-from-end.false, long, c.self.invariant.2));
+      small = next.within;
+      none = none-settling c.args.self.now c.self.inside.rows.settling c.self.inside.rows.head c.args.from c.next-k.result rows.settling next;
+    }
+
+pub loop-k-preserved : goal.loop-k-preserved
+loop-k-preserved c =
+    let rows : AreRows c.self.inside.rows c.args.self.now.accesses = subst (AreRows c.self.inside.rows) (ap (λ (v : QueueView). v.accesses) c.self.view_is) c.self.invariant.3 in
+    let next = c.next-k-in-loop-k.ensures in
+    let before = c.loop-k.invariant in
+    let long = ap (λ (v : QueueView). length v.accesses) c.self.view_is in
+    let on : c.loop-k.k + 1 ≤ c.next-k-in-loop-k.result = next.behind (omega (arith, c.loop-k-test.true, long, c.self.invariant.2)) in
+    record {
+      behind = omega (arith, before.behind, on);
+      small = next.within;
+      none = none-on (settles_now c.args.self.now) c.args.from c.loop-k.k c.next-k-in-loop-k.result before.none (sym c.may_settle.ensures ∙ c.if-may_settle.false)
+          (none-settling c.args.self.now c.self.inside.rows.settling c.self.inside.rows.head (c.loop-k.k + 1) c.next-k-in-loop-k.result rows.settling next);
+    }
