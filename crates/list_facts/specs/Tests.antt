@@ -1,7 +1,7 @@
 -- Which elements of a list pass a test.
-use Rattle.std.proofs.Common.{◌≡◌, ℕ, suc, ◌+◌, ◌<◌, nat_lt, Bool, true, false, cond, not, ◌||◌, List, [], ◌∷◌, length, get_or, map, take, find, Some, None, slice_get, refl, ap, ◌∙◌, arith}
+use Rattle.std.proofs.Common.{◌≡◌, ℕ, suc, ◌+◌, ◌<◌, nat_lt, Bool, true, false, cond, not, ◌||◌, List, [], ◌∷◌, length, get_or, map, reverse, take, find, Some, None, slice_get, refl, ap, ◌∙◌, arith}
 use Rattle.std.specs.List.{list_any, position, prefix_len}
-use Rattle.std.proofs.lemmas.List.{length-map}
+use Rattle.std.proofs.lemmas.List.{length-map, reverse-append}
 use Rattle.std.proofs.lemmas.List.Folds.{list_any-append}
 use Rattle.list_facts.specs.Places.{take-at}
 
@@ -33,6 +33,18 @@ any-more p xs k x at none other =
     let next : k + 1 ≡ suc k = omega arith in
     ap (λ j. list_any p (take j xs)) next ∙ ap (list_any p) (take-at xs k x at)
     ∙ (list_any-append p (take k xs) (x ∷ []) ∙ (ap (λ b. b || list_any p (x ∷ [])) none ∙ ap (λ b. b || false) other))
+
+-- one passes from the last on where one does
+pub any-reverse : {X : Type 0} (p : X → Bool) (xs : List X) → list_any p (reverse xs) ≡ list_any p xs
+any-reverse p [] = refl
+any-reverse {X} p (x ∷ xs) =
+    ap (list_any p) (reverse-append (x ∷ []) xs) ∙ (list_any-append p (reverse xs) (x ∷ []) ∙ (ap (λ b. b || (p x || false)) (any-reverse p xs) ∙ swapped (list_any p xs) (p x)))
+  where
+    swapped : (b d : Bool) → (b || (d || false)) ≡ (d || b)
+    swapped true true = refl
+    swapped true false = refl
+    swapped false true = refl
+    swapped false false = refl
 
 pub prefix_len-map : {A B : Type 0} (p : B → Bool) (g : A → B) (xs : List A) → prefix_len p (map g xs) ≡ prefix_len (λ x. p (g x)) xs
 prefix_len-map p g [] = refl

@@ -12,7 +12,8 @@ use Rattle.rsim_base.specs.declared.memory.Size.{Size}
 use Rattle.ring_set.specs.Sets.{aged}
 use Rattle.ring_set.specs.declared.set.Places.{Places}
 use Rattle.memory_queue.specs.Queues.{QueueView, are_stores_known, binds_now, is_met_at, is_needed, may_bind, may_bind_at, is_load, may_settle, may_settle_at, meets, settles_now}
-use Rattle.memory_queue.specs.Rows.{IsNext, IsPrevious, IsRow, is_open, is_settling, is_unknown, is_unplaced, is_waiting, passes_at}
+use Rattle.memory_queue.specs.Steps.{IsNext, IsPrevious}
+use Rattle.memory_queue.specs.Rows.{IsRow, is_open, is_settling, is_unknown, is_unplaced, is_waiting, passes_at}
 use Rattle.memory_queue.specs.declared.queued.Queued.{Queued}
 use Rattle.memory_queue.proofs.Walking.{back-at}
 

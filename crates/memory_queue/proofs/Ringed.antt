@@ -6,7 +6,8 @@ use Rattle.list_facts.specs.Places.{slice_get-set_same, slice_get-set_other, sli
 use Rattle.ring_set.specs.Sets.{aged, greatest, has, least, place_at}
 use Rattle.ring_set.specs.Firsts.{TellsGreatest, TellsLeast, tells-greatest, tells-least}
 use Rattle.ring_set.specs.declared.set.Places.{Places}
-use Rattle.memory_queue.specs.Rows.{IsNext, IsPrevious, IsRow, passes_at}
+use Rattle.memory_queue.specs.Steps.{IsNext, IsPrevious}
+use Rattle.memory_queue.specs.Rows.{IsRow, passes_at}
 use Rattle.memory_queue.specs.declared.queued.Queued.{Queued}
 
 -- ---- lists
@@ -141,3 +142,8 @@ previous-of all head n k is =
 -- the set with a place where a test that is alike passes
 pub with-test : (was new : Places) (place : ℕ) (b d : Bool) → b ≡ d → ((j : ℕ) → has new j ≡ cond (j == place) b (has was j)) → (j : ℕ) → has new j ≡ cond (j == place) d (has was j)
 with-test was new place b d same is j = is j ∙ ap (λ c. cond (j == place) c (has was j)) same
+
+-- a set by ages has the same row
+pub row-turned : (test : Queued → Bool) (was turned : Places) (head : ℕ) (xs : List Queued) → IsRow was head test xs → ((k : ℕ) → k < 128 → has turned k ≡ aged was head k) → IsRow turned 0 test xs
+unfolding place_at
+row-turned test was turned head xs row turn k lt = let same : (0 + k) % 128 ≡ k = omega arith in ap (has turned) same ∙ (turn k lt ∙ row k lt)

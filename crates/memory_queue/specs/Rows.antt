@@ -1,5 +1,5 @@
 -- The accesses in flight as sets of places of a ring, by what is asked of them.
-use Rattle.std.specs.Prelude.{◌≡◌, ℕ, suc, ◌<◌, ◌≤◌, not, ◌&&◌, ◌||◌, Bool, true, false, List, is_some, slice_get}
+use Rattle.std.specs.Prelude.{◌≡◌, ℕ, ◌<◌, not, ◌&&◌, ◌||◌, Bool, false, List, is_some, slice_get}
 use Rattle.std.specs.Option.{option_map_or}
 use Rattle.rsim_base.specs.Accesses.{stores}
 use Rattle.ring_set.specs.Sets.{aged}
@@ -41,16 +41,3 @@ pub record AreRows (rows : Rows) (xs : List Queued) : Type 0 where
   pub waiting : IsRow rows.waiting rows.head is_waiting xs
   pub settling : IsRow rows.settling rows.head is_settling xs
   pub unplaced : IsRow rows.unplaced rows.head is_unplaced xs
-
--- the least from `from` on that passes, of those below n, or n
-pub record IsNext (p : ℕ → Bool) (from n k : ℕ) : Type 0 where
-  pub within : k ≤ n
-  pub behind : from ≤ n → from ≤ k
-  pub there : k < n → p k ≡ true
-  pub before : (j : ℕ) → from ≤ j → j < k → p j ≡ false
-
--- the greatest below n that passes, and one more, or zero
-pub record IsPrevious (p : ℕ → Bool) (n k : ℕ) : Type 0 where
-  pub within : k ≤ n
-  pub there : (j : ℕ) → k ≡ suc j → p j ≡ true
-  pub behind : (j : ℕ) → k ≤ j → j < n → p j ≡ false

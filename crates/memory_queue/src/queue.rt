@@ -7,7 +7,7 @@ ghost use Rattle.list_facts.specs.Least.{IsGreatest, IsLeast};
 ghost use Rattle.memory_queue.specs.Queues.{AreRising, is_after, are_stores_known, binds, binds_now, changed, cut, first_queue, forwarded_to, gives_way, has_place, is_met, is_met_at, is_ready, met_by, met_from, pushed, settles_now};
 
 use crate::queued::Queued;
-use crate::rows::Rows;
+use crate::rows::{Rows, next, previous};
 use circular_buffer::HeapCircularBuffer;
 use machine_config::Config;
 use order_axioms::Fences;
@@ -130,12 +130,13 @@ impl MemoryQueue {
         if from as usize >= end {
             return None;
         }
-        let mut k = self.rows.next(self.rows.waiting, from as usize);
+        let waiting = self.rows.waiting.by_age(self.rows.head);
+        let mut k = next(waiting, from as usize);
         while k < end {
             if self.may_bind(k) {
                 return Some(k as u32);
             }
-            k = self.rows.next(self.rows.waiting, k + 1);
+            k = next(waiting, k + 1);
         }
         None
     }
@@ -186,12 +187,13 @@ impl MemoryQueue {
         if from as usize >= end {
             return None;
         }
-        let mut k = self.rows.next(self.rows.settling, from as usize);
+        let settling = self.rows.settling.by_age(self.rows.head);
+        let mut k = next(settling, from as usize);
         while k < end {
             if self.may_settle(k) {
                 return Some(k as u32);
             }
-            k = self.rows.next(self.rows.settling, k + 1);
+            k = next(settling, k + 1);
         }
         None
     }
@@ -272,8 +274,9 @@ impl MemoryQueue {
         ensures known { (k : ℕ) → k ≤ result → are_stores_known (take k self.now.accesses) ≡ true }
         ensures rest { (k : ℕ) → result ≤ k → k < length self.now.accesses → binds_now self.now k ≡ false }
     {
-        let unknown = self.rows.next(self.rows.unknown, 0);
-        unknown.min(self.accesses.len())
+        let unknown = self.rows.unknown.by_age(self.rows.head);
+        let oldest = next(unknown, 0);
+        oldest.min(self.accesses.len())
     }
 
     // Whether the access at place `k`, before which every store has an address, is a load that may bind.
@@ -309,13 +312,14 @@ impl MemoryQueue {
         ensures last { IsGreatest (is_met_at a n self.now.accesses) k result }
         ensures value { met_by (take k self.now.accesses) a n ≡ option_and_then (λ j. slice_get self.now.accesses j) result }
     {
-        let mut end = self.rows.previous(self.rows.stores, k);
+        let stores = self.rows.stores.by_age(self.rows.head);
+        let mut end = previous(stores, k);
         while end > 0 {
             let earlier = end - 1;
             if self.known(earlier).meets(a, n) {
                 return Some(earlier);
             }
-            end = self.rows.previous(self.rows.stores, earlier);
+            end = previous(stores, earlier);
         }
         None
     }
@@ -340,12 +344,13 @@ impl MemoryQueue {
         requires { k < length self.now.accesses }
         ensures { result ≡ is_ready self.now.model (take k self.now.accesses) a access.now }
     {
-        let mut place = self.rows.next(self.rows.unplaced, 0);
+        let unplaced = self.rows.unplaced.by_age(self.rows.head);
+        let mut place = next(unplaced, 0);
         while place < k {
             if self.known(place).holds_back(self.model, a, access) {
                 return false;
             }
-            place = self.rows.next(self.rows.unplaced, place + 1);
+            place = next(unplaced, place + 1);
         }
         true
     }

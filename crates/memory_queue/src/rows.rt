@@ -1,6 +1,7 @@
 // The accesses in flight as sets of places of a ring, by what is asked of them.
 ghost use Rattle.std.specs.Prelude.{◌≡◌, ℕ, ◌++◌, ◌∷◌, [], ◌<◌, ◌≤◌, ◌==◌, List, drop, if◌then◌else◌, length, slice_set, take};
 ghost use Rattle.ring_set.specs.Sets.{aged, has};
+ghost use Rattle.memory_queue.specs.Steps.{IsNext, IsPrevious};
 
 use crate::queued::Queued;
 use ring_set::{PLACES, Places};
@@ -24,7 +25,7 @@ pub(crate) struct Rows {
 
 impl Rows {
     ghost use Rattle.memory_queue.specs.declared.queued.Queued.{Queued};
-    ghost use Rattle.memory_queue.specs.Rows.{AreRows, IsNext, IsPrevious};
+    ghost use Rattle.memory_queue.specs.Rows.{AreRows};
 
     /// Of no access.
     pub(crate) fn none() -> Rows
@@ -79,23 +80,23 @@ impl Rows {
         self.settling = self.settling.and(left);
         self.unplaced = self.unplaced.and(left);
     }
+}
 
-    /// The least age from `from` on of a place of the set; 128 where there is none.
-    pub(crate) fn next(&self, set: Places, from: usize) -> usize
-        requires { from ≤ 128 }
-        ensures { IsNext (aged set self.now.head) from 128 result }
-    {
-        let later = set.outside(Places::run(self.head, from as u8));
-        usize::from(later.oldest(self.head))
-    }
+/// The least number from `from` on that is in the set; 128 where there is none.
+pub(crate) fn next(set: Places, from: usize) -> usize
+    requires { from ≤ 128 }
+    ensures { IsNext (aged set 0) from 128 result }
+{
+    let later = set.outside(Places::run(0, from as u8));
+    usize::from(later.oldest(0))
+}
 
-    /// The greatest age below `n` of a place of the set, and one more; 0 where there is none.
-    pub(crate) fn previous(&self, set: Places, n: usize) -> usize
-        requires { n ≤ 128 }
-        ensures { IsPrevious (aged set self.now.head) n result }
-    {
-        usize::from(set.youngest(self.head, n as u8))
-    }
+/// The greatest number below `n` that is in the set, and one more; 0 where there is none.
+pub(crate) fn previous(set: Places, n: usize) -> usize
+    requires { n ≤ 128 }
+    ensures { IsPrevious (aged set 0) n result }
+{
+    usize::from(set.youngest(0, n as u8))
 }
 
 // The set with this place, or without it.

@@ -1,5 +1,5 @@
 // From an order's text to the order.
-ghost use Rattle.std.specs.Prelude.{◌≡◌, ℕ, ◌<◌, ◌≤◌, ◌⊎◌, ◌++◌, ◌∷◌, [], length, take, sum, IfOk, IfErr, OnOk, None};
+ghost use Rattle.std.specs.Prelude.{◌≡◌, ◌/◌, min, ℕ, ◌<◌, ◌≤◌, ◌⊎◌, ◌++◌, ◌∷◌, [], length, take, sum, IfOk, IfErr, OnOk, None};
 ghost use Rattle.order_certificate.specs.Certificate.{IsCertificate, text_of, CertificateView};
 ghost use Rattle.rsim_base.specs.Limits.{max_processors, max_steps};
 ghost use Rattle.order_certificate.specs.Fields.{access_at, fault_at, HasHeading, HasLines, IsOverfull};
@@ -98,13 +98,14 @@ fn read_lines(alloc: Global, text: &[u8]) -> Result<(Vec<Access>, &[u8]), TextFa
     Ok((lines, rest))
 }
 
-// At least as many as there are accesses, as far as there may be so many: each has a line feed.
-fn room_for(text: &[u8]) -> usize {
-    let mut feeds: usize = 0;
-    for byte in text {
-        feeds += usize::from(*byte == b'\n');
-    }
-    feeds.min(MAX_STEPS as usize)
+// The shortest line of an access is `0 0 L 1 0000000000200000 00 -` and a line feed.
+const SHORTEST_LINE: usize = 30;
+
+// At least as many as there are accesses, as far as there may be so many.
+fn room_for(text: &[u8]) -> usize
+    ensures { result ≡ min (length text.now / 30) max_steps }
+{
+    (text.len() / SHORTEST_LINE).min(MAX_STEPS as usize)
 }
 
 // Puts one more access behind the others.

@@ -1,5 +1,5 @@
 -- A load whose bytes are all from one store that is still to come, or all from memory.
-use Rattle.std.proofs.Common.{◌≡◌, ◌<◌, ◌≤◌, ◌+◌, ◌%◌, ◌^◌, ◌&&◌, ◌||◌, nat_lt, ℕ, Bool, true, false, List, Option, None, Some, slice_get, if◌then◌else◌, ◌==◌, refl, sym, ap, subst, ⊎_elim, ◌∙◌, arith}
+use Rattle.std.proofs.Common.{◌≡◌, ◌<◌, ◌≤◌, ◌+◌, ◌%◌, ◌^◌, nat_lt, ℕ, Bool, true, false, Option, None, Some, slice_get, if◌then◌else◌, ◌==◌, refl, sym, ap, subst, ⊎_elim, ◌∙◌, arith}
 use Rattle.std.proofs.lemmas.Bool.{and_parts, and_from, or_left, or_right, ltb-true, lt-ltb, cases_lt, false≢true}
 use Rattle.rsim_base.specs.Accesses.{stores, overlap}
 use Rattle.rsim_base.specs.Bytes.{Covers, IsByteOf, Overlaps, count_of, gap_of}
@@ -7,7 +7,6 @@ use Rattle.rsim_base.specs.ByteSets.{IsByteOf-from_gap, gap_of-IsByteOf, gaps_of
 use Rattle.rsim_base.specs.declared.memory.Access.{Access}
 use Rattle.elf64_load.specs.Image.{ImageView}
 use Rattle.order_certificate.specs.Certificate.{CertificateView}
-use Rattle.order_checker.specs.declared.verdict.Rejected.{Rejected}
 use Rattle.order_checker.specs.declared.verdict.Rejected.TheVariants.{WrongValue}
 use Rattle.order_checker.specs.declared.walk.Walk.{Walk}
 use Rattle.order_checker.specs.Faults.{file_line, writes, wrong, source_byte}
@@ -16,7 +15,7 @@ use Rattle.order_checker.specs.Standing.{stands_from}
 use Rattle.order_checker.specs.Values.{loaded_byte, stored_byte}
 use Rattle.order_checker.specs.Walking.{IsAtLine, differs_from, latest_left, touches}
 use Rattle.order_checker.proofs.FirstOnes.{first-same}
-use Rattle.order_checker.proofs.Latest.{IsLatest, LatestOf, NoStore, LatestOf-walk, found_own, source_own}
+use Rattle.order_checker.proofs.Latest.{LatestOf, LatestOf-walk, found_own, source_own}
 
 -- the address of an access in a line
 addr_fits : (image : ImageView) (c : CertificateView) (j k : ℕ) (e f : Access) (w : Walk) → IsAtLine image c j e w → slice_get c.lines k ≡ Some f → f.addr.0 < 2 ^ 64

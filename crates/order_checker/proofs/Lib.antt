@@ -8,6 +8,7 @@ pub mod LinePlaces
 pub mod Late
 pub mod Latest
 pub mod LineSteps
+pub mod LookingBack
 pub mod MadeLines
 pub mod NoTexts
 pub mod Outcomes

@@ -1,6 +1,5 @@
 -- A load that memory's value explains whole.
-use Rattle.std.proofs.Common.{◌≡◌, ◌<◌, ◌+◌, ◌%◌, ◌^◌, ◌==◌, nat_lt, ℕ, [], None, sym, ap, subst, ◌∙◌, arith}
-use Rattle.std.specs.List.{take_while}
+use Rattle.std.proofs.Common.{◌≡◌, ◌<◌, ◌+◌, ◌%◌, ◌^◌, ◌==◌, ℕ, None, sym, ap, subst, ◌∙◌, arith}
 use Rattle.std.proofs.lemmas.Bool.{eq-eqb, cond-true}
 use Rattle.rsim_base.specs.Bytes.{byte_of, count_of, gap_of}
 use Rattle.rsim_base.specs.declared.memory.Access.{Access}

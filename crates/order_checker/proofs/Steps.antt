@@ -1,5 +1,5 @@
 -- Runs by one step more.
-use Rattle.std.proofs.Common.{◌≡◌, ◌++◌, ◌&&◌, ℕ, zero, suc, Bool, true, false, not, if◌then◌else◌, List, length, Option, None, Some, is_none, unwrap_or, option_and_then, slice_get, refl, ap, ◌∙◌}
+use Rattle.std.proofs.Common.{◌≡◌, ◌&&◌, ℕ, suc, Bool, true, false, not, if◌then◌else◌, List, length, Option, None, Some, unwrap_or, option_and_then, slice_get, refl, ap, ◌∙◌}
 use Rattle.elf64_load.specs.Image.{ImageView}
 use Rattle.sparc_meaning.specs.Arch.{is_running}
 use Rattle.sparc_meaning.specs.Run.{Ran, run, advanced, after, uses_value}

@@ -1,9 +1,10 @@
 -- The walk over the lines of an order: what the code keeps when it has come to a place.
-use Rattle.std.specs.Prelude.{◌≡◌, ℕ, ◌+◌, ◌%◌, ◌^◌, ◌<◌, ◌==◌, nat_lt, Bool, false, ◌&&◌, if◌then◌else◌, List, length, fold, slice_get, slice_index, Option, None, Some, option_and_then}
+use Rattle.std.specs.Prelude.{◌≡◌, ℕ, ◌+◌, ◌%◌, ◌^◌, ◌<◌, ◌==◌, nat_lt, Bool, false, ◌&&◌, if◌then◌else◌, List, length, fold, slice_get, slice_index, Option, None, Some, option_and_then, option_map}
 use Rattle.std.specs.List.{take_while}
 use Rattle.rsim_base.specs.Accesses.{stores, overlap}
 use Rattle.rsim_base.specs.declared.memory.Access.{Access}
 use Rattle.rsim_base.specs.declared.memory.Model.{Model}
+use Rattle.rsim_base.specs.declared.memory.Model.TheVariants.{Sc, Pc, Rc}
 use Rattle.elf64_load.specs.Image.{ImageView}
 use Rattle.image_memory.specs.Memory.{byte_in}
 use Rattle.image_memory.specs.declared.memory.Memory.{Memory}
@@ -34,6 +35,12 @@ abbrev pub is_needed_by : Model → List Access → Program → Access → ℕ �
 is_needed_by model lines program e k =
     is_needed_of model (option_and_then (slice_get lines) (slice_get program.places.items k)) (slice_get program.fences.items k) e (slice_get program.fences.items e.index)
 
+-- where the access is a load that the model lets pass earlier stores but for fences, how many of these stand before it
+abbrev pub passing_load : Model → Access → Option Fences → Option ℕ
+passing_load Sc e now = None
+passing_load Pc e now = if stores e.kind then None else option_map (λ f. f.sl) now
+passing_load Rc e now = if stores e.kind then None else option_map (λ f. f.sl) now
+
 -- ---- memory
 
 -- a byte as the lines before place j have left it
@@ -56,9 +63,13 @@ later counts latest None = latest
 later counts None (Some j) = if counts then Some j else None
 later counts (Some k) (Some j) = if counts && nat_lt k j then Some j else Some k
 
+-- the same with access k of a program, whose line passes or not
+abbrev pub with_later : (Option Access → Bool) → List Access → List ℕ → Option ℕ → ℕ → Option ℕ
+with_later test lines places found k = later (test (option_and_then (slice_get lines) (slice_get places k))) found (slice_get places k)
+
 -- of these accesses of a program, the last place whose line passes
 abbrev pub latest : (Option Access → Bool) → List Access → List ℕ → List ℕ → Option ℕ
-latest test lines places ks = fold (λ found k. later (test (option_and_then (slice_get lines) (slice_get places k))) found (slice_get places k)) None ks
+latest test lines places ks = fold (with_later test lines places) None ks
 
 -- of the accesses before this one whose lines are still to come, the last place whose line passes
 abbrev pub latest_left : (Option Access → Bool) → List Access → Access → Walk → Option ℕ

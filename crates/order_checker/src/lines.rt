@@ -1,17 +1,18 @@
 // The walk over the lines of an order: whether each stands where it may, and has the value that its sources give.
-ghost use Rattle.std.specs.Prelude.{◌≡◌, ◌+◌, ◌%◌, ◌<◌, None, Some, OnOk, IfErr, if◌then◌else◌, length, slice_get};
+ghost use Rattle.std.specs.Prelude.{◌≡◌, ◌+◌, ◌%◌, ◌<◌, None, Some, OnOk, IfErr, IfOk, if◌then◌else◌, length, nat_lt, slice_get};
+ghost use Rattle.std.specs.List.{take_while};
 ghost use Rattle.rsim_base.specs.Accesses.{loads};
 ghost use Rattle.rsim_base.specs.Bytes.{count_of};
 ghost use Rattle.order_certificate.specs.Certificate.{IsCertificate};
 ghost use Rattle.order_checker.specs.Faults.{late, line_fault, stray, wrong};
 ghost use Rattle.order_checker.specs.Firsts.{first};
 ghost use Rattle.order_checker.specs.Outcomes.{IsFault};
-ghost use Rattle.order_checker.specs.Walking.{AreWalks, HasWalked, HasWritten, IsAtLine, IsWalk};
+ghost use Rattle.order_checker.specs.Walking.{AreWalks, HasWalked, HasWritten, IsAtLine, IsWalk, latest_left, touches};
 
 use crate::places::FIRST_LINE;
 use crate::values::wrong_value;
 use crate::verdict::Rejected;
-use crate::walk::Walk;
+use crate::walk::{Behind, Walk};
 use elf64_load::Image;
 use image_memory::Memory;
 use order_certificate::Certificate;
@@ -86,52 +87,59 @@ fn walk_line(
     ensures fault { IfErr result (IsFault (line_fault image.now order.now place)) }
 {
     walk.reach(line.index)?;
-    if let Some(fault) = fault_of(image, order, walk, memory, line, place) {
-        return Err(fault);
-    }
+    let count = judge_line(image, order, walk, memory, line, place)?;
     store(image, order, memory, line, place)?;
-    walk.pass(line.index);
+    walk.pass(line.index, count);
     Ok(())
 }
 
-// The fault of the line at a place.
-fn fault_of(
+// How many of the processor's earlier accesses stand behind the line at a place, if the line has no fault.
+fn judge_line(
     image: &Image,
     order: &Certificate,
     walk: &Walk,
     memory: &Memory,
     line: &Access,
     place: u32,
-) -> Option<Rejected>
+) -> Result<usize, Rejected>
     requires at { IsAtLine image.now order.now place line.now walk.now }
     requires written { HasWritten image.now order.now.lines place memory.now }
-    ensures { result ≡ line_fault image.now order.now place }
+    ensures count { IfOk result (λ count. count ≡ length (take_while (λ k. nat_lt k line.now.index) walk.now.left.items)) }
+    ensures none { OnOk result (line_fault image.now order.now place ≡ None) }
+    ensures fault { IfErr result (λ r. line_fault image.now order.now place ≡ Some r) }
 {
-    match order_fault(image, order, walk, line, place) {
-        Some(fault) => Some(fault),
-        None => value_fault(image, order, walk, memory, line, place),
+    let behind = order_fault(image, order, walk, line, place)?;
+    match value_fault(image, order, walk, memory, line, place, behind.latest) {
+        Some(fault) => Err(fault),
+        None => Ok(behind.count),
     }
 }
 
-// The least of the processor's earlier accesses that must stand before the line and stands behind it.
+// What stands behind the line of the processor's earlier accesses, if none of them must stand before it.
+//
+// Errors: the fault of the least that must.
 fn order_fault(
     image: &Image,
     order: &Certificate,
     walk: &Walk,
     line: &Access,
     place: u32,
-) -> Option<Rejected>
+) -> Result<Behind, Rejected>
     requires at { IsAtLine image.now order.now place line.now walk.now }
-    ensures { result ≡ first (late image.now order.now place line.now) line.now.index }
+    ensures count { IfOk result (λ behind. behind.count ≡ length (take_while (λ k. nat_lt k line.now.index) walk.now.left.items)) }
+    ensures latest { IfOk result (λ behind. behind.latest ≡ latest_left (touches line.now) order.now.lines line.now walk.now) }
+    ensures none { OnOk result (first (late image.now order.now place line.now) line.now.index ≡ None) }
+    ensures fault { IfErr result (λ r. first (late image.now order.now place line.now) line.now.index ≡ Some r) }
 {
     prove!((place as usize) < order.lines.len());
-    match walk.first_needed(order.model, &order.lines, line) {
-        Some(i) => Some(Rejected::OutOfOrder(place + FIRST_LINE, line.node, i)),
-        None => None,
+    match walk.look_back(order.model, &order.lines, line) {
+        Ok(behind) => Ok(behind),
+        Err(i) => Err(Rejected::OutOfOrder(place + FIRST_LINE, line.node, i)),
     }
 }
 
-// The first byte of the line's value that its source has not written, where the line loads.
+// The first byte of the line's value that its source has not written, where the line loads; the last store behind it of
+// its processor's earlier ones that touches it stands at this place.
 fn value_fault(
     image: &Image,
     order: &Certificate,
@@ -139,13 +147,15 @@ fn value_fault(
     memory: &Memory,
     line: &Access,
     place: u32,
+    latest: Option<u32>,
 ) -> Option<Rejected>
     requires at { IsAtLine image.now order.now place line.now walk.now }
     requires written { HasWritten image.now order.now.lines place memory.now }
+    requires latest { latest ≡ latest_left (touches line.now) order.now.lines line.now walk.now }
     ensures { result ≡ (if loads line.now.kind then first (wrong image.now order.now.lines place line.now) (count_of line.now.size) else None) }
 {
     if line.kind.loads() {
-        wrong_value(image, order, walk, memory, line, place)
+        wrong_value(image, order, walk, memory, line, place, latest)
     } else {
         None
     }

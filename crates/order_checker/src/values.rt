@@ -16,7 +16,8 @@ use order_certificate::Certificate;
 use rsim_base::{Access, covers, cut};
 
 /// The first byte of a load's value that is another than its source has written, where memory has what the lines before
-/// have written.
+/// have written, and of its processor's earlier stores that are still to come the last that has a byte of the load stands
+/// at this place.
 pub fn wrong_value(
     image: &Image,
     order: &Certificate,
@@ -24,14 +25,16 @@ pub fn wrong_value(
     memory: &Memory,
     line: &Access,
     place: u32,
+    latest: Option<u32>,
 ) -> Option<Rejected>
     requires at { IsAtLine image.now order.now place line.now walk.now }
     requires written { HasWritten image.now order.now.lines place memory.now }
     requires aligned { line.now.addr.0 % count_of line.now.size ≡ 0 }
     requires few { place < max_steps }
+    requires latest { latest ≡ latest_left (touches line.now) order.now.lines line.now walk.now }
     ensures { result ≡ first (wrong image.now order.now.lines place line.now) (count_of line.now.size) }
 {
-    match walk.latest_overlap(&order.lines, line) {
+    match latest {
         None => wrong_in_memory(image, order, walk, memory, line, place),
         Some(at) => wrong_at(image, order, walk, memory, line, place, at),
     }

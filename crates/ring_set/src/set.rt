@@ -88,6 +88,14 @@ impl Places {
         self.0.count_ones() as u8
     }
 
+    /// The ages of the places of the set, each in the place of its number.
+    pub fn by_age(self, head: u8) -> Places
+        requires { head < 128 }
+        ensures { (k : ℕ) → k < 128 → has result k ≡ aged self head k }
+    {
+        Places(self.0.rotate_right(u32::from(head)))
+    }
+
     /// The least age of a place, counted from the head; 128 where there is none.
     pub fn oldest(self, head: u8) -> u8
         requires { head < 128 }

@@ -1,6 +1,7 @@
 // Retired stores that wait to be performed.
-ghost use Rattle.std.specs.Prelude.{◌≡◌, ◌<◌, ◌≤◌, [], IfOk, IfSome, Some, length, option_copied, option_map, slice_get, vec_capacity, vec_len};
+ghost use Rattle.std.specs.Prelude.{◌≡◌, ◌<◌, ◌≤◌, [], IfOk, IfSome, Some, false, length, option_copied, option_map, slice_get, vec_capacity, vec_len};
 ghost use Rattle.store_buffer.specs.Buffers as buffers;
+ghost use Rattle.std.specs.Option.{option_map_or};
 ghost use Rattle.list_facts.specs.Least.{IsGreatest, IsLeast};
 ghost use Rattle.store_buffer.specs.Buffers.{PushesOf, Removes, given, is_free_at, is_met_at, lets, meets};
 
@@ -146,11 +147,25 @@ fn first_free(m: Model, stores: &[Waiting], from: usize) -> Option<usize>
     None
 }
 
-// Whether none of these earlier stores must come before it.
+// Whether none of these earlier stores must come before it. One before a fence shows in the oldest, which has the fewest
+// fences before it, and one that overlaps mostly is young.
 fn is_free(m: Model, earlier: &[Waiting], y: &Waiting) -> bool
     ensures { result ≡ buffers.is_free m earlier.now y.now }
 {
-    !earlier.iter().any(|x| is_needed(m, x, y))
+    if is_oldest_needed(m, earlier, y) {
+        return false;
+    }
+    !earlier.iter().rev().any(|x| is_needed(m, x, y))
+}
+
+// Whether there is an oldest of these, and it must come before the later one.
+fn is_oldest_needed(m: Model, earlier: &[Waiting], y: &Waiting) -> bool
+    ensures { result ≡ option_map_or (λ x. buffers.is_needed m x y.now) (slice_get earlier.now 0) false }
+{
+    match earlier.first() {
+        Some(x) => is_needed(m, x, y),
+        None => false,
+    }
 }
 
 // Whether the first store must come before the second, which its program made later.

@@ -1,5 +1,5 @@
 -- What the walk finds, as the fault that it is.
-use Rattle.std.proofs.Common.{nat_lt, ℕ, Option, find, option_map, sym, ap, ◌∙◌}
+use Rattle.std.proofs.Common.{◌≡◌, nat_lt, ℕ, List, Option, None, Some, find, option_map, sym, ap, ◌∙◌}
 use Rattle.std.specs.List.{take_while}
 use Rattle.rsim_base.specs.declared.memory.Access.{Access}
 use Rattle.order_certificate.specs.Certificate.{CertificateView}
@@ -13,20 +13,22 @@ use Rattle.order_checker.proofs.lines.order_fault.Goals as goal
 abbrev found : CertificateView → Access → Walk → Option ℕ
 found order e w = find (is_needed_by order.model order.lines w.program e) (take_while (λ k. nat_lt k e.index) w.left.items)
 
-pub returns-in-Some : goal.returns-in-Some
-returns-in-Some c =
-    let e = c.args.line.now in
-    let w = c.args.walk.now in
-    ap (option_map (OutOfOrder (file_line c.args.place) e.node)) (c.in-Some.ensures
-    ∙ ap (λ ls. find (is_needed_by c.order.inside.model ls w.program e) (take_while (λ k. nat_lt k e.index) w.left.items)) c.deref.ensures.value
-    ∙ ap (λ order. found order e w) c.order.view_is)
-    ∙ sym (late_found c.args.image.now c.args.order.now c.args.place e w c.requires.at)
+-- what is found in the order as the code has it
+same_found : (order inside : CertificateView) (lines : List Access) (e : Access) (w : Walk) (o : Option ℕ) → inside ≡ order → lines ≡ inside.lines →
+    find (is_needed_by inside.model lines w.program e) (take_while (λ k. nat_lt k e.index) w.left.items) ≡ o → found order e w ≡ o
+same_found order inside lines e w o is lines_are sought =
+    sym (ap (λ ls. find (is_needed_by inside.model ls w.program e) (take_while (λ k. nat_lt k e.index) w.left.items)) lines_are ∙ ap (λ c. found c e w) is) ∙ sought
 
-pub returns-in-None : goal.returns-in-None
-returns-in-None c =
+pub returns-in-Ok-clause-none : goal.returns-in-Ok-clause-none
+returns-in-Ok-clause-none c =
     let e = c.args.line.now in
     let w = c.args.walk.now in
-    ap (option_map (OutOfOrder (file_line c.args.place) e.node)) (c.in-None.ensures
-    ∙ ap (λ ls. find (is_needed_by c.order.inside.model ls w.program e) (take_while (λ k. nat_lt k e.index) w.left.items)) c.deref.ensures.value
-    ∙ ap (λ order. found order e w) c.order.view_is)
-    ∙ sym (late_found c.args.image.now c.args.order.now c.args.place e w c.requires.at)
+    late_found c.args.image.now c.args.order.now c.args.place e w c.requires.at
+    ∙ ap (option_map (OutOfOrder (file_line c.args.place) e.node)) (same_found c.args.order.now _ c.deref.result.now e w None c.order.view_is c.deref.ensures.value c.in-Ok.ensures.none)
+
+pub returns-in-Err-clause-fault : goal.returns-in-Err-clause-fault
+returns-in-Err-clause-fault c =
+    let e = c.args.line.now in
+    let w = c.args.walk.now in
+    late_found c.args.image.now c.args.order.now c.args.place e w c.requires.at
+    ∙ ap (option_map (OutOfOrder (file_line c.args.place) e.node)) (same_found c.args.order.now _ c.deref.result.now e w (Some c.in-Err.i) c.order.view_is c.deref.ensures.value c.in-Err.ensures.needed)

@@ -6,8 +6,8 @@ use Rattle.order_checker.proofs.lines.walk_line.Goals as goal
 pub reach-requires : goal.reach-requires
 reach-requires c = (c.requires.certificate.in_text c.args.place c.args.line.now c.requires.stands).index
 
-pub fault_of-requires-clause-at : goal.fault_of-requires-clause-at
-fault_of-requires-clause-at c =
+pub judge_line-requires-clause-at : goal.judge_line-requires-clause-at
+judge_line-requires-clause-at c =
     IsAtLine-reached c.args.image.now c.args.order.now c.args.place c.args.line.now c.args.walk.now c.reach.new.self c.requires.certificate c.requires.strays c.requires.stands c.requires.walk c.reach.ensures.same c.in_ok-reach.ensures.walked c.in_ok-reach.ensures.reached
 
 pub store-requires-clause-aligned : goal.store-requires-clause-aligned
@@ -15,8 +15,8 @@ store-requires-clause-aligned c =
     (IsAt-from c.args.image.now c.args.order.now c.args.place c.args.line.now c.reach.new.self
     (IsAtLine-reached c.args.image.now c.args.order.now c.args.place c.args.line.now c.args.walk.now c.reach.new.self c.requires.certificate c.requires.strays c.requires.stands c.requires.walk c.reach.ensures.same c.in_ok-reach.ensures.walked c.in_ok-reach.ensures.reached)).aligned
 
-pub pass-requires : goal.pass-requires
-pass-requires c =
+pub pass-requires-clause-left : goal.pass-requires-clause-left
+pass-requires-clause-left c =
     left_before c.args.image.now c.args.order.now c.args.place c.args.line.now c.reach.new.self
     (IsAtLine-reached c.args.image.now c.args.order.now c.args.place c.args.line.now c.args.walk.now c.reach.new.self c.requires.certificate c.requires.strays c.requires.stands c.requires.walk c.reach.ensures.same c.in_ok-reach.ensures.walked c.in_ok-reach.ensures.reached)
 

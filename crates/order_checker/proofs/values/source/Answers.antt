@@ -1,7 +1,6 @@
 -- The store that is found, or memory.
-use Rattle.std.proofs.Common.{◌≡◌, ◌<◌, nat_lt, ℕ, List, length, Option, None, Some, get_or, slice_get, sym, ap, subst, ◌∙◌, arith}
-use Rattle.std.specs.List.{take_while}
-use Rattle.std.proofs.lemmas.Option.{slice_get_within, get_or_from_slice_get}
+use Rattle.std.proofs.Common.{◌≡◌, ◌<◌, ℕ, List, length, Option, None, Some, sym, ap, subst, ◌∙◌, arith}
+use Rattle.std.proofs.lemmas.Option.{slice_get_within}
 use Rattle.rsim_base.specs.Bytes.{count_of, gap_of}
 use Rattle.rsim_base.specs.declared.memory.Access.{Access}
 use Rattle.order_certificate.specs.Certificate.{CertificateView}

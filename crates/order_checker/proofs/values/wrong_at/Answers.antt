@@ -1,5 +1,5 @@
 -- The store that is found, and what is known of it.
-use Rattle.std.proofs.Common.{◌≡◌, ◌<◌, ◌^◌, length, sym, ap, subst, ◌∙◌, rules, arith}
+use Rattle.std.proofs.Common.{◌<◌, ◌^◌, length, sym, ap, subst, ◌∙◌, rules, arith}
 use Rattle.std.proofs.lemmas.Option.{slice_get_within}
 use Rattle.rsim_base.specs.Bytes.{Covers, count_of}
 use Rattle.rsim_base.specs.declared.memory.Access.{Access}

@@ -1,6 +1,0 @@
-use Rattle.std.proofs.Common.{◌∙◌}
-use Rattle.memory_queue.proofs.Ringed.{previous-of}
-use Rattle.memory_queue.proofs.rows.Rows.previous.Goals as goal
-
-pub returns : goal.returns
-returns c = previous-of c.args.set c.args.self.now.head c.args.n c.from.result (c.from.ensures ∙ c.youngest.ensures)
